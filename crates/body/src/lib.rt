@@ -1,0 +1,104 @@
+// What the LSA bodies of both versions share: the answer of a body's functions, the array of attached routers, and the
+// bytes that are left of a body.
+ghost use mathlib.Core.Path.{_≡_};
+ghost use Prim.Native.Nat.{ℕ, _+_, _*_, _≤_, _<_};
+ghost use mathlib.Core.List.{flatMap};
+ghost use lib.ListN.{length};
+ghost use Rattle.format.specs.Strip.{encode};
+ghost use Rattle.format.specs.Wrote.{Wrote};
+ghost use Rattle.format.specs.Cut.{cut, after, fixedRule};
+ghost use Rattle.format.specs.Body.{leftover, listing, whole, attachedRouter};
+use strip::push::begin_container;
+use strip::push::end_container;
+use strip::push::push_bytes;
+use strip::push::push_ipv4_at;
+
+// A router's id in an array of attached routers.
+const ATTACHED_ROUTER: u8 = 98;
+
+// What became of a body: the place after its entries and the number of bytes consumed, or that it is raw. For a body that
+// is only measured the place is counted from where the entries begin.
+pub enum Body {
+    Decoded { at: usize, consumed: usize },
+    Raw,
+}
+
+// A list in a strip: the place after its entries, and where in the body it ends. The place as in `Body`.
+pub struct Listed {
+    pub at: usize,
+    pub end: usize,
+}
+
+// A whole LSA, measured: the length of its entries in a strip, and how many of its bytes stay unparsed.
+pub struct Lsa {
+    pub length: usize,
+    pub tail: usize,
+}
+
+// The length of what `push_unparsed` writes, under any id and wherever the body lies.
+pub fn measure_unparsed(body: &[u8], p: usize) -> usize
+    ensures { λ r. ⌜ ((i o : ℕ) → r ≡ length (encode (leftover i (now (body .entry)) o p))) ⌝ }
+{
+    if p < body.len() { 10 } else { 0 }
+}
+
+// The bytes from p to the end of a body, if there are any.
+pub fn push_unparsed(strip: &mut [u8], at: usize, id: u8, body: &[u8], p: usize, o: u32) -> usize
+    requires { ⌜ at + length (encode (leftover id (now body) o p)) ≤ length (now strip) ⌝ }
+    requires { ⌜ o + length (now body) < 4294967296 ⌝ }
+    ensures { λ r. ⌜ Wrote (now (strip .entry)) at (encode (leftover id (now (body .entry)) o p)) (now (strip .exit)) r ⌝ }
+{
+    let n = body.len();
+    if p < n {
+        push_bytes(strip, at, id, o + p as u32, o + n as u32)
+    } else {
+        at
+    }
+}
+
+// The length of what `push_attached_routers` writes, under any id and wherever the body lies.
+pub fn measure_attached_routers(body: &[u8]) -> Listed
+    requires { ⌜ 4 ≤ length (now body) ⌝ }
+    requires { ⌜ length (now body) < 65536 ⌝ }
+    ensures { λ r. ⌜ ((i o : ℕ) → r .at ≡ length (encode (listing i (attachedRouter (now (body .entry)) o) o 4 (whole 4 (now (body .entry)) 4)))) ⌝ }
+    ensures { λ r. ⌜ r .end ≡ after 4 (whole 4 (now (body .entry)) 4) ⌝ }
+{
+    let count = (body.len() - 4) / 4;
+    Listed {
+        at: 11 + count * 14,
+        end: 4 + count * 4,
+    }
+}
+
+// The routers of a Network-LSA, as many as its body holds from 4 on (RFC 2328 A.4.3, RFC 5340 A.4.4).
+pub fn push_attached_routers(strip: &mut [u8], at: usize, id: u8, body: &[u8], o: u32) -> Listed
+    requires { ⌜ at + length (encode (listing id (attachedRouter (now body) o) o 4 (whole 4 (now body) 4))) ≤ length (now strip) ⌝ }
+    requires { ⌜ 4 ≤ length (now body) ⌝ }
+    requires { ⌜ o + length (now body) < 4294967296 ⌝ }
+    ensures { λ r. ⌜ Wrote (now (strip .entry)) at (encode (listing id (attachedRouter (now (body .entry)) o) o 4 (whole 4 (now (body .entry)) 4))) (now (strip .exit)) (r .at) ⌝ }
+    ensures { λ r. ⌜ r .end ≡ after 4 (whole 4 (now (body .entry)) 4) ⌝ }
+{
+    let count = (body.len() - 4) / 4;
+    let end = 4 + count * 4;
+    let a = begin_container(strip, at, id, o + 4, o + end as u32);
+    let b = push_routers(strip, a, body, o, count);
+    let c = end_container(strip, b);
+    Listed { at: c, end }
+}
+
+fn push_routers(strip: &mut [u8], at: usize, body: &[u8], o: u32, count: usize) -> usize
+    requires { ⌜ at + length (encode (flatMap (attachedRouter (now body) o) (cut (fixedRule 4) (now body) count 4))) ≤ length (now strip) ⌝ }
+    requires { ⌜ 4 + count * 4 ≤ length (now body) ⌝ }
+    requires { ⌜ o + length (now body) < 4294967296 ⌝ }
+    ensures { λ r. ⌜ Wrote (now (strip .entry)) at (encode (flatMap (attachedRouter (now (body .entry)) o) (cut (fixedRule 4) (now (body .entry)) count 4))) (now (strip .exit)) r ⌝ }
+{
+    let mut a = at;
+    let mut pos: usize = 4;
+    let mut left = count;
+    while 0 < left {
+        a = push_ipv4_at(strip, a, ATTACHED_ROUTER, body, pos, o);
+        pos = pos + 4;
+        left = left - 1;
+    }
+    a
+}

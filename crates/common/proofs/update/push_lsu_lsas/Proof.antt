@@ -1,0 +1,181 @@
+use Rattle.common.specs.declared.Answer.{Answer}
+use Rattle.common.proofs.Objects.{length-outer, unparsed-bound}
+use Rattle.format.proofs.Refusals.{limits, walk-refused, walk-full, walk-done}
+use Rattle.format.specs.Walks.{updateOf, refusal, outer, lsaObject, lsas, unparsedId}
+use Rattle.format.specs.Body.{leftover}
+use Rattle.format.specs.Cut.{after}
+use Rattle.format.specs.Strip.{encode}
+use lib.ListN.{length}
+use native.Mathlib.Omega.{arith}
+use mathlib.Core.Path.{_≡_, refl, sym, ap, _∙_}
+use Prim.Native.Nat.{ℕ, _+_, _-_}
+use borrow.Author.Needs.{needs}
+use Rattle.common.proofs.update.push_lsu_lsas.Statement.{statement}
+use Rattle.common.proofs.update.push_lsu_lsas.Tie as tie
+
+refusal-of-requires : tie.Need-refusal-of-requires
+refusal-of-requires c κs = search needs
+
+refused-requires : tie.Need-refused-requires
+refused-requires c κs = search needs
+
+returns : tie.Need-returns
+unfolding updateOf
+returns c =
+    let s = c .before .before .before .before .before in
+    let v = s .args .version in
+    let d = s .args .data .now in
+    let k = s .args .count in
+    let o = s .args .offset in
+    let before = s .args .strip .now in
+    let n = refusal v d o 4 in
+    let e = c .before .before .refusal-of .ensures in
+    let w = walk-refused n (outer v (lsaObject v d o) d o 4 (lsas d k)) (length (lsas d k)) (length d - after 4 (lsas d k)) before (λ x. c .before .if1 .taken (e ∙ x)) in
+    let f = ap (λ (a : Answer). a .length) (c .refused .ensures) in
+    (rw (w .0, sym e) (c .refused .ensures), (sym (w .1), omega arith))
+
+measure-lsas-requires : tie.Need-measure-lsas-requires
+measure-lsas-requires c κs =
+    let s = c .before .before .before .before in
+    let v = s .args .version in
+    let d = s .args .data .now in
+    let k = s .args .count in
+    let o = s .args .offset in
+    let before = s .args .strip .now in
+    let n = refusal v d o 4 in
+    let e = c .before .refusal-of .ensures in
+    let z : refusal v d o 4 ≡ 0 = sym e ∙ c .if1 .left in
+    let m = limits v d o 4 z in
+    omega arith
+
+add-length : tie.Need-add-length
+add-length c =
+    let s = c .before .before .before .before .before .before in
+    let v = s .args .version in
+    let d = s .args .data .now in
+    let k = s .args .count in
+    let o = s .args .offset in
+    let before = s .args .strip .now in
+    let n = refusal v d o 4 in
+    let e = c .before .before .before .refusal-of .ensures in
+    let z : refusal v d o 4 ≡ 0 = sym e ∙ c .before .before .if1 .left in
+    let m = limits v d o 4 z in
+    omega arith
+
+measure-unparsed-requires : tie.Need-measure-unparsed-requires
+measure-unparsed-requires c κs = search needs
+
+add-length-2 : tie.Need-add-length-2
+add-length-2 c =
+    let s = c .before .before .before .before .before .before .before in
+    let v = s .args .version in
+    let d = s .args .data .now in
+    let k = s .args .count in
+    let o = s .args .offset in
+    let before = s .args .strip .now in
+    let n = refusal v d o 4 in
+    let e = c .before .before .before .before .refusal-of .ensures in
+    let z : refusal v d o 4 ≡ 0 = sym e ∙ c .before .before .before .if1 .left in
+    let m = limits v d o 4 z in
+    omega (arith, c .measure-unparsed .ensures 0 0, unparsed-bound d 0 0 (c .before .before .measure-lsas .result .end))
+
+no-room-requires : tie.Need-no-room-requires
+no-room-requires c κs = search needs
+
+returns-2 : tie.Need-returns-2
+unfolding updateOf
+returns-2 c =
+    let s = c .before .before .before .before .before .before .before .before .before in
+    let v = s .args .version in
+    let d = s .args .data .now in
+    let k = s .args .count in
+    let o = s .args .offset in
+    let before = s .args .strip .now in
+    let n = refusal v d o 4 in
+    let e = c .before .before .before .before .before .before .refusal-of .ensures in
+    let z : refusal v d o 4 ≡ 0 = sym e ∙ c .before .before .before .before .before .if1 .left in
+    let m = limits v d o 4 z in
+    let q = c .before .before .before .before .measure-lsas .ensures .1 .1 .0 in
+    let l = length-outer v (lsaObject v d o) d o 4 (lsas d k) in
+    let t = ap (λ (x : ℕ). length (encode (leftover (unparsedId v) d o x))) q in
+    let size : c .before .before .before .before .measure-lsas .result .length + 11 + c .before .before .measure-unparsed .result ≡ length (encode (outer v (lsaObject v d o) d o 4 (lsas d k))) = omega (arith, c .before .before .before .before .measure-lsas .ensures .0 o, c .before .before .measure-unparsed .ensures (unparsedId v) o) in
+    let w = walk-full n (outer v (lsaObject v d o) d o 4 (lsas d k)) (length (lsas d k)) (length d - after 4 (lsas d k)) before z (omega arith) in
+    let f = ap (λ (a : Answer). a .length) (c .no-room .ensures) in
+    (rw (w .0, ← size) (c .no-room .ensures), (sym (w .1), omega (arith, c .before .before .measure-unparsed .ensures 0 0, unparsed-bound d 0 0 (c .before .before .before .before .measure-lsas .result .end))))
+
+cast-write-lsas : tie.Need-cast-write-lsas
+cast-write-lsas c =
+    let s = c .before .before .before .before .before .before .before .before .before in
+    let v = s .args .version in
+    let d = s .args .data .now in
+    let k = s .args .count in
+    let o = s .args .offset in
+    let before = s .args .strip .now in
+    let n = refusal v d o 4 in
+    let e = c .before .before .before .before .before .before .refusal-of .ensures in
+    let z : refusal v d o 4 ≡ 0 = sym e ∙ c .before .before .before .before .before .if1 .left in
+    let m = limits v d o 4 z in
+    omega arith
+
+write-lsas-requires : tie.Need-write-lsas-requires
+write-lsas-requires c κs =
+    let s = c .before .before .before .before .before .before .before .before .before in
+    let v = s .args .version in
+    let d = s .args .data .now in
+    let k = s .args .count in
+    let o = s .args .offset in
+    let before = s .args .strip .now in
+    let n = refusal v d o 4 in
+    let e = c .before .before .before .before .before .before .refusal-of .ensures in
+    let z : refusal v d o 4 ≡ 0 = sym e ∙ c .before .before .before .before .before .if1 .left in
+    let m = limits v d o 4 z in
+    let q = c .before .before .before .before .measure-lsas .ensures .1 .1 .0 in
+    let l = length-outer v (lsaObject v d o) d o 4 (lsas d k) in
+    let t = ap (λ (x : ℕ). length (encode (leftover (unparsedId v) d o x))) q in
+    let size : c .before .before .before .before .measure-lsas .result .length + 11 + c .before .before .measure-unparsed .result ≡ length (encode (outer v (lsaObject v d o) d o 4 (lsas d k))) = omega (arith, c .before .before .before .before .measure-lsas .ensures .0 o, c .before .before .measure-unparsed .ensures (unparsedId v) o) in
+    (omega arith, (omega arith, (omega arith, (omega arith, (q, omega arith)))))
+
+sub-t12 : tie.Need-sub-t12
+sub-t12 c = search needs
+
+same-length : tie.Need-same-length
+same-length c = search needs
+
+returns-3 : tie.Need-returns-3
+unfolding updateOf
+returns-3 c =
+    let s = c .before .before .before .before .before .before .before .before .before .before .before .before in
+    let v = s .args .version in
+    let d = s .args .data .now in
+    let k = s .args .count in
+    let o = s .args .offset in
+    let before = s .args .strip .now in
+    let n = refusal v d o 4 in
+    let e = c .before .before .before .before .before .before .before .before .before .refusal-of .ensures in
+    let z : refusal v d o 4 ≡ 0 = sym e ∙ c .before .before .before .before .before .before .before .before .if1 .left in
+    let m = limits v d o 4 z in
+    let q = c .before .before .before .before .before .before .before .measure-lsas .ensures .1 .1 .0 in
+    let l = length-outer v (lsaObject v d o) d o 4 (lsas d k) in
+    let t = ap (λ (x : ℕ). length (encode (leftover (unparsedId v) d o x))) q in
+    let size : c .before .before .before .before .before .before .before .measure-lsas .result .length + 11 + c .before .before .before .before .before .measure-unparsed .result ≡ length (encode (outer v (lsaObject v d o) d o 4 (lsas d k))) = omega (arith, c .before .before .before .before .before .before .before .measure-lsas .ensures .0 o, c .before .before .before .before .before .measure-unparsed .ensures (unparsedId v) o) in
+    let w = walk-done n (outer v (lsaObject v d o) d o 4 (lsas d k)) (length (lsas d k)) (length d - after 4 (lsas d k)) before z (omega arith) in
+    (rw (w .0, ← size, ← c .before .before .before .before .before .before .before .measure-lsas .ensures .1 .0, ← q) refl, (c .before .before .write-lsas .ensures .contents ∙ sym (w .1), omega (arith, c .before .before .before .before .before .measure-unparsed .ensures 0 0, unparsed-bound d 0 0 (c .before .before .before .before .before .before .before .measure-lsas .result .end))))
+
+pub push-lsu-lsas-spec : {M : Type 1} → statement M
+push-lsu-lsas-spec =
+    tie.close
+    (tie.spec
+    refusal-of-requires
+    refused-requires
+    returns
+    measure-lsas-requires
+    add-length
+    measure-unparsed-requires
+    add-length-2
+    no-room-requires
+    returns-2
+    cast-write-lsas
+    write-lsas-requires
+    sub-t12
+    same-length
+    returns-3)

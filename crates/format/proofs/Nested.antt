@@ -1,0 +1,89 @@
+-- Laws of well-nested entries, and that every LSA's entries are such, with no object of a walk inside.
+use Prim.Native.Nat.{ℕ, _+_, _-_}
+use native.Mathlib.Omega.{arith}
+use mathlib.Core.Path.{_≡_, refl, sym, ap, _∙_, subst}
+use mathlib.Core.Bool.{Bool, true, false, cond}
+use mathlib.Core.List.{List, [], _∷_, _++_, flatMap, append-assoc}
+use lib.ListN.{length}
+use lib.Dec.{eqb, ltb}
+use borrow.Author.Tests.{eqb-true}
+use Rattle.format.specs.Strip.{Entry, container}
+use Rattle.format.specs.Strip.Entry.{opens, closes, u8, u16, u32, ip4, ip6, bytes}
+use Rattle.format.specs.Cut.{Span, after}
+use Rattle.format.specs.Body.{listing, listingIfAny, leftover}
+use Rattle.format.specs.Shown.{Range, range, opening, ranges, isField, Nested}
+use Rattle.format.specs.Shown.Nested.{none, field, group}
+
+-- Whether all entries are fields.
+abbrev pub allFields : List Entry → Bool
+allFields [] = true
+allFields (x ∷ xs) = cond (isField x) (allFields xs) false
+
+module _ (ok : ℕ → Bool) where
+  pub nested-fields : (es : List Entry) → allFields es ≡ true → Nested ok es
+  nested-fields [] h = none
+  nested-fields (x ∷ xs) h = go (isField x) refl h (nested-fields xs)
+    where
+      go : (t : Bool) → isField x ≡ t → cond t (allFields xs) false ≡ true → (allFields xs ≡ true → Nested ok xs) → Nested ok (x ∷ xs)
+      go true e h n = field e (n h)
+      go false e h n = let z : _≡_ {A = ℕ} 0 1 = cc in absurd (omega arith)
+
+  pub nested-append : {xs ys : List Entry} → Nested ok xs → Nested ok ys → Nested ok (xs ++ ys)
+  nested-append none n = n
+  nested-append (field e m) n = field e (nested-append m n)
+  nested-append {ys = ys} (group {inside} {es} i s e h m k) n = rw append-assoc (group i s e h m (nested-append k n))
+
+  pub nested-container : (i s e : ℕ) {inside : List Entry} → ok i ≡ true → Nested ok inside → Nested ok (container i s e inside)
+  unfolding container
+  nested-container i s e h n = group i s e h n none
+
+  pub nested-flat : (f : Span → List Entry) → ((s : Span) → Nested ok (f s)) → (ss : List Span) → Nested ok (flatMap f ss)
+  unfolding flatMap
+  nested-flat f h [] = none
+  nested-flat f h (s ∷ ss) = nested-append (h s) (nested-flat f h ss)
+
+  pub nested-listing : (i : ℕ) (f : Span → List Entry) (o p : ℕ) (ss : List Span) → ok i ≡ true → ((s : Span) → Nested ok (f s)) → Nested ok (listing i f o p ss)
+  unfolding listing
+  nested-listing i f o p ss h n = nested-container i _ _ h (nested-flat f n ss)
+
+  pub nested-listing-if : (i : ℕ) (f : Span → List Entry) (o p : ℕ) (ss : List Span) → ok i ≡ true → ((s : Span) → Nested ok (f s)) → Nested ok (listingIfAny i f o p ss)
+  unfolding listingIfAny
+  nested-listing-if i f o p [] h n = none
+  nested-listing-if i f o p (s ∷ ss) h n = nested-listing i f o p (s ∷ ss) h n
+
+  -- a choice between two well-nested lists
+  pub nested-cond : (t : Bool) {xs ys : List Entry} → Nested ok xs → Nested ok ys → Nested ok (cond t xs ys)
+  nested-cond true m n = m
+  nested-cond false m n = n
+
+  pub nested-leftover : (i : ℕ) (b : List ℕ) (o p : ℕ) → Nested ok (leftover i b o p)
+  unfolding leftover
+  nested-leftover i b o p = nested-cond (ltb p (length b)) {xs = bytes i (o + p) (o + length b) ∷ []} (field refl none) none
+
+-- The ranges of one list of entries after another.
+pub ranges-append : (i : ℕ) (xs ys : List Entry) → ranges i (xs ++ ys) ≡ ranges i xs ++ ranges i ys
+unfolding ranges
+ranges-append i [] ys = refl
+ranges-append i (x ∷ xs) ys = rw (ranges-append i xs ys, append-assoc)
+
+-- A field opens nothing.
+opens-nothing : (i : ℕ) (x : Entry) → isField x ≡ true → opening i x ≡ []
+opens-nothing i (opens j s e) h = let z : _≡_ {A = ℕ} 0 1 = cc in absurd (omega arith)
+opens-nothing i closes h = refl
+opens-nothing i (u8 j s e v) h = refl
+opens-nothing i (u16 j s e v) h = refl
+opens-nothing i (u32 j s e v) h = refl
+opens-nothing i (ip4 j s e a) h = refl
+opens-nothing i (ip6 j s e x l) h = refl
+opens-nothing i (bytes j s e) h = refl
+
+-- An id that fails the test is not there.
+pub absent : {ok : ℕ → Bool} {es : List Entry} (i : ℕ) → ok i ≡ false → Nested ok es → ranges i es ≡ []
+unfolding ranges
+absent i h none = refl
+absent i h (field {x} {es} e n) = rw (opens-nothing i x e) (absent i h n)
+absent {ok} i h (group {inside} {es} j s e g m n) = go (eqb i j) refl (absent i h m) (absent i h n)
+  where
+    go : (t : Bool) → eqb i j ≡ t → ranges i inside ≡ [] → ranges i es ≡ [] → cond t (range s e ∷ []) [] ++ ranges i (inside ++ (closes ∷ es)) ≡ []
+    go true q u v = let p = eqb-true i j q in let z : _≡_ {A = Bool} true false = sym g ∙ (ap ok (sym p) ∙ h) in let y : _≡_ {A = ℕ} 0 1 = cc in absurd (omega arith)
+    go false q u v = ranges-append i inside (closes ∷ es) ∙ rw (u, v)

@@ -1,0 +1,174 @@
+-- Each refusal's number is answered exactly when its condition holds and none before it does; and a refused call leaves the
+-- buffer as it was and answers zeros, but for the length needed where there is too little room.
+use Prim.Native.Nat.{ℕ, _<_, _≤_}
+use native.Mathlib.Omega.{arith}
+use mathlib.Core.Path.{_≡_, refl, sym, _∙_}
+use mathlib.Core.Logic.{_↔_}
+use mathlib.Core.Bool.{Bool, true, false, cond}
+use mathlib.Core.List.{List}
+use lib.ListN.{length}
+use lib.Seq.{sets}
+use lib.Dec.{eqb, ltb}
+use borrow.Author.Tests.{ltb-true, ltb-false, eqb-true, eqb-false, lt-ltb, le-ltb, eq-eqb, ne-eqb}
+use Rattle.format.specs.Strip.{Entry, encode}
+use Rattle.format.specs.Walks.{Outcome, Answer, answer, answerOf, stripOf, unless, isKnown, refusal, maxData, maxOffset, NoVersion, TooMuch, TooFar, TooLittle, Refusals, headersOf, updateOf, lsaOf, outer, headerObject, lsaObject, headers, lsas, lsaEntries}
+use Rattle.format.specs.Header.{headerSize}
+use Rattle.format.specs.Walks.Outcome.{refused, accepted}
+
+-- A proposition that a test decides.
+data Decided (p : Type 0) : Bool → Type 0 where
+  holds : p → Decided p true
+  fails : (p → ⊥) → Decided p false
+
+less : (a b : ℕ) → Decided (a < b) (ltb a b)
+less a b = go (ltb a b) refl
+  where
+    go : (t : Bool) → ltb a b ≡ t → Decided (a < b) t
+    go true e = holds (ltb-true a b e)
+    go false e = fails (λ h. let q = ltb-false a b e in omega arith)
+
+-- whether the version is neither 2 nor 3, by the test that it is one of them
+no-version : (v : ℕ) → Decided (NoVersion v → ⊥) (isKnown v)
+no-version v = go (eqb v 2) refl (eqb v 3) refl
+  where
+    go : (s : Bool) → eqb v 2 ≡ s → (t : Bool) → eqb v 3 ≡ t → Decided (NoVersion v → ⊥) (cond s true t)
+    go true e t f = holds (λ n. n .0 (eqb-true v 2 e))
+    go false e true f = holds (λ n. n .1 (eqb-true v 3 f))
+    go false e false f = fails (λ n. n (eqb-false v 2 e, eqb-false v 3 f))
+
+-- The table, from the tests in their order.
+table : (v : ℕ) (d : List ℕ) (o least room needed : ℕ) {a b c e f : Bool}
+    → Decided (NoVersion v → ⊥) a → Decided (TooMuch d) b → Decided (TooFar o) c → Decided (TooLittle d least) e → Decided (room < needed) f
+    → Refusals v d o least room needed (cond a (cond b 2 (cond c 3 (cond e 4 (cond f 5 0)))) 1)
+table v d o least room needed (fails nn) m f l r = record {
+  one = (λ h. (λ e. nn (λ n. n .0 e), λ e. nn (λ n. n .1 e)), λ p. refl);
+  two = (λ h. absurd (omega arith), λ p. absurd (nn (p .0)));
+  three = (λ h. absurd (omega arith), λ p. absurd (nn (p .0)));
+  four = (λ h. absurd (omega arith), λ p. absurd (nn (p .0)));
+  five = (λ h. absurd (omega arith), λ p. absurd (nn (p .0)));
+  zero = (λ h. absurd (omega arith), λ p. absurd (nn (p .0)));
+}
+table v d o least room needed (holds k) (holds c) f l r = record {
+  one = (λ h. absurd (omega arith), λ p. absurd (k p));
+  two = (λ h. (k, c), λ p. refl);
+  three = (λ h. absurd (omega arith), λ p. absurd (p .1 c));
+  four = (λ h. absurd (omega arith), λ p. absurd (p .1 c));
+  five = (λ h. absurd (omega arith), λ p. absurd (p .1 c));
+  zero = (λ h. absurd (omega arith), λ p. absurd (p .1 c));
+}
+table v d o least room needed (holds k) (fails n2) (holds c) l r = record {
+  one = (λ h. absurd (omega arith), λ p. absurd (k p));
+  two = (λ h. absurd (omega arith), λ p. absurd (n2 (p .1)));
+  three = (λ h. (k, n2, c), λ p. refl);
+  four = (λ h. absurd (omega arith), λ p. absurd (p .2 c));
+  five = (λ h. absurd (omega arith), λ p. absurd (p .2 c));
+  zero = (λ h. absurd (omega arith), λ p. absurd (p .2 c));
+}
+table v d o least room needed (holds k) (fails n2) (fails n3) (holds c) r = record {
+  one = (λ h. absurd (omega arith), λ p. absurd (k p));
+  two = (λ h. absurd (omega arith), λ p. absurd (n2 (p .1)));
+  three = (λ h. absurd (omega arith), λ p. absurd (n3 (p .2)));
+  four = (λ h. (k, n2, n3, c), λ p. refl);
+  five = (λ h. absurd (omega arith), λ p. absurd (p .3 c));
+  zero = (λ h. absurd (omega arith), λ p. absurd (p .3 c));
+}
+table v d o least room needed (holds k) (fails n2) (fails n3) (fails n4) (holds c) = record {
+  one = (λ h. absurd (omega arith), λ p. absurd (k p));
+  two = (λ h. absurd (omega arith), λ p. absurd (n2 (p .1)));
+  three = (λ h. absurd (omega arith), λ p. absurd (n3 (p .2)));
+  four = (λ h. absurd (omega arith), λ p. absurd (n4 (p .3)));
+  five = (λ h. (k, n2, n3, n4, c), λ p. refl);
+  zero = (λ h. absurd (omega arith), λ p. absurd (p .4 c));
+}
+table v d o least room needed (holds k) (fails n2) (fails n3) (fails n4) (fails n5) = record {
+  one = (λ h. absurd (omega arith), λ p. absurd (k p));
+  two = (λ h. absurd (omega arith), λ p. absurd (n2 (p .1)));
+  three = (λ h. absurd (omega arith), λ p. absurd (n3 (p .2)));
+  four = (λ h. absurd (omega arith), λ p. absurd (n4 (p .3)));
+  five = (λ h. absurd (omega arith), λ p. absurd (n5 (p .4)));
+  zero = (λ h. (k, n2, n3, n4, n5), λ p. refl);
+}
+
+-- The number that is answered is that of the first test that fails.
+number-is : (v : ℕ) (d : List ℕ) (o least : ℕ) (es : List Entry) (r t room : ℕ)
+    → answerOf (unless (refusal v d o least) (accepted es r t)) room .number
+    ≡ cond (isKnown v) (cond (ltb maxData (length d)) 2 (cond (ltb maxOffset o) 3 (cond (ltb (length d) least) 4 (cond (ltb room (length (encode es))) 5 0)))) 1
+unfolding unless answerOf
+number-is v d o least es r t room =
+    go (isKnown v) (ltb maxData (length d)) (ltb maxOffset o) (ltb (length d) least) (ltb room (length (encode es))) refl
+  where
+    go : (a b c e f : Bool) → ltb room (length (encode es)) ≡ f
+        → answerOf (unless (cond a (cond b 2 (cond c 3 (cond e 4 0))) 1) (accepted es r t)) room .number ≡ cond a (cond b 2 (cond c 3 (cond e 4 (cond f 5 0)))) 1
+    go false b c e f q = refl
+    go true true c e f q = refl
+    go true false true e f q = refl
+    go true false false true f q = refl
+    go true false false false true q = rw q
+    go true false false false false q = rw q
+
+pub refusals : (v : ℕ) (d : List ℕ) (o least : ℕ) (es : List Entry) (r t room : ℕ)
+    → Refusals v d o least room (length (encode es)) (answerOf (unless (refusal v d o least) (accepted es r t)) room .number)
+refusals v d o least es r t room =
+    rw (number-is v d o least es r t room)
+    (table v d o least room (length (encode es)) (no-version v) (less maxData (length d)) (less maxOffset o) (less (length d) least) (less room (length (encode es))))
+
+-- A call that is not accepted leaves the buffer, and answers no record and no tail.
+pub refused-leaves : (x : Outcome) (before : List ℕ) → (answerOf x (length before) .number ≡ 0 → ⊥)
+    → (stripOf x before ≡ before) × (answerOf x (length before) .records ≡ 0) × (answerOf x (length before) .tail ≡ 0)
+unfolding answerOf stripOf
+refused-leaves (refused n) before h = (refl, refl, refl)
+refused-leaves (accepted es r t) before h = go (ltb (length before) (length (encode es))) refl h
+  where
+    go : (f : Bool) → ltb (length before) (length (encode es)) ≡ f → (cond f (answer 5 (length (encode es)) 0 0) (answer 0 (length (encode es)) r t) .number ≡ 0 → ⊥)
+        → (stripOf (accepted es r t) before ≡ before) × (answerOf (accepted es r t) (length before) .records ≡ 0) × (answerOf (accepted es r t) (length before) .tail ≡ 0)
+    go true q h = (rw q, rw q, rw q)
+    go false q h = absurd (h refl)
+
+-- The table of each walk.
+pub headers-refusals : (v : ℕ) (d : List ℕ) (o room : ℕ)
+    → Refusals v d o 0 room (length (encode (outer v (headerObject v d o) d o 0 (headers d)))) (answerOf (headersOf v d o) room .number)
+unfolding headersOf
+headers-refusals v d o room = refusals v d o 0 _ _ _ room
+
+pub update-refusals : (v : ℕ) (d : List ℕ) (count o room : ℕ)
+    → Refusals v d o 4 room (length (encode (outer v (lsaObject v d o) d o 4 (lsas d count)))) (answerOf (updateOf v d count o) room .number)
+unfolding updateOf
+update-refusals v d count o room = refusals v d o 4 _ _ _ room
+
+pub lsa-refusals : (v : ℕ) (d : List ℕ) (o room : ℕ)
+    → Refusals v d o headerSize room (length (encode (lsaEntries v d o))) (answerOf (lsaOf v d o) room .number)
+unfolding lsaOf
+lsa-refusals v d o room = refusals v d o headerSize _ _ _ room
+
+-- The three ways that a walk ends.
+module _ (n : ℕ) (es : List Entry) (r t : ℕ) (before : List ℕ) where
+  pub walk-refused : (n ≡ 0 → ⊥) → (answerOf (unless n (accepted es r t)) (length before) ≡ answer n 0 0 0) × (stripOf (unless n (accepted es r t)) before ≡ before)
+  unfolding unless answerOf stripOf
+  walk-refused h = let e = ne-eqb n 0 h in (rw e, rw e)
+
+  pub walk-full : n ≡ 0 → length before < length (encode es)
+      → (answerOf (unless n (accepted es r t)) (length before) ≡ answer 5 (length (encode es)) 0 0) × (stripOf (unless n (accepted es r t)) before ≡ before)
+  unfolding unless answerOf stripOf
+  walk-full h l = let e = eq-eqb n 0 h in let f = lt-ltb (length before) (length (encode es)) l in (rw (e, f), rw (e, f))
+
+  pub walk-done : n ≡ 0 → length (encode es) ≤ length before
+      → (answerOf (unless n (accepted es r t)) (length before) ≡ answer 0 (length (encode es)) r t) × (stripOf (unless n (accepted es r t)) before ≡ sets before 0 (encode es))
+  unfolding unless answerOf stripOf
+  walk-done h l = let e = eq-eqb n 0 h in let f = le-ltb (length before) (length (encode es)) l in (rw (e, f), rw (e, f))
+
+-- The limits that a call without a refusal keeps.
+pub record Limits (d : List ℕ) (o least : ℕ) : Type 0 where
+  pub data-fits : length d ≤ maxData
+  pub offset-fits : o ≤ maxOffset
+  pub enough : least ≤ length d
+
+pub limits : (v : ℕ) (d : List ℕ) (o least : ℕ) → refusal v d o least ≡ 0 → Limits d o least
+limits v d o least h = go (isKnown v) (ltb maxData (length d)) refl (ltb maxOffset o) refl (ltb (length d) least) refl h
+  where
+    go : (a b : Bool) → ltb maxData (length d) ≡ b → (c : Bool) → ltb maxOffset o ≡ c → (e : Bool) → ltb (length d) least ≡ e
+        → _≡_ {A = ℕ} (cond a (cond b 2 (cond c 3 (cond e 4 0))) 1) 0 → Limits d o least
+    go true false x false y false z h = record { data-fits = ltb-false _ _ x; offset-fits = ltb-false _ _ y; enough = ltb-false _ _ z }
+    go true false x false y true z h = absurd (omega arith)
+    go true false x true y e z h = absurd (omega arith)
+    go true true x c y e z h = absurd (omega arith)
+    go false b x c y e z h = absurd (omega arith)

@@ -1,0 +1,148 @@
+-- Each list is shown by its strip: the LSAs of an update, the links of a Router-LSA, prefixes; and the headers of a list.
+use Prim.Native.Nat.{ℕ, _+_, _-_, _/_, _≤_}
+use native.Mathlib.Nat.{zero-add}
+use native.Mathlib.Omega.{arith}
+use mathlib.Core.Path.{_≡_, refl, sym, ap, _∙_}
+use mathlib.Core.Bool.{Bool, true, false, cond}
+use mathlib.Core.List.{List, [], _∷_, _++_, map, flatMap, append-nil, append-assoc}
+use mathlib.Core.Option.{some}
+use lib.ListN.{length, getD, take, drop, length-map}
+use lib.Seq.{sets, sets-eq, take-append-seam}
+use lib.Dec.{eqb, ltb}
+use borrow.Author.Tests.{le-ltb, eq-eqb}
+use Rattle.format.specs.Bytes.{be16At, be32At, part}
+use Rattle.format.specs.Strip.{Entry, encode, readAll, container, u8At, u16At, u32At, wide16At}
+use Rattle.format.specs.Strip.Entry.{opens, closes}
+use Rattle.format.specs.Prefix.{ip6At}
+use Rattle.format.specs.Cut.{Span, Rule, cut, after, IsCut, recordRule, linkRule, prefixRule, fixedRule}
+use Rattle.format.specs.Header.{headerSize, headerEntries2, headerEntries3}
+use Rattle.format.specs.Body.{listing, leftover, bodyEntries, bodyTail, whole}
+use Rattle.format.specs.Body.Body.{decoded}
+use Rattle.format.specs.V2 as v2
+use Rattle.format.specs.V3 as v3
+use Rattle.format.specs.Walks.{lsaEntries, lsaTail, headerEntries, lsaObject, headerObject, outer, unparsedId, lsas, headers}
+use Rattle.format.specs.Shown.{Range, range, opening, ranges, placed, Nested, Shows, LsaShows, UpdateShows, OneShows, HeadersShow}
+use Rattle.format.proofs.Read.{read-encode}
+use Rattle.format.proofs.Unique.{is-cut, only}
+use Rattle.format.proofs.Nested.{nested-fields, nested-append, nested-leftover, absent, ranges-append}
+use Rattle.format.proofs.NestedLsa.{below, nested-lsa, nested-header, nested-header2, nested-header3, linkInside, nested-link-inside, prefixInside, nested-prefix-inside}
+
+-- The ranges of a container: its own, if it has the id, and those inside it.
+ranges-container : (i j s e : ℕ) (inside : List Entry) → ranges i (container j s e inside) ≡ cond (eqb i j) (range s e ∷ []) [] ++ ranges i inside
+unfolding ranges container
+ranges-container i j s e inside = ap (λ (x : List Range). cond (eqb i j) (range s e ∷ []) [] ++ x) (ranges-append i inside (closes ∷ []) ∙ append-nil (ranges i inside))
+
+-- An array of containers, seen by an id that is neither theirs nor inside them, or by theirs.
+module _ (o item : ℕ) (inside : Span → List Entry) where
+  abbrev boxed : Span → List Entry
+  boxed s = container item (o + s .at) (o + s .at + s .len) (inside s)
+
+  items-absent : (i : ℕ) → eqb i item ≡ false → ((s : Span) → ranges i (inside s) ≡ []) → (ss : List Span) → ranges i (flatMap boxed ss) ≡ []
+  unfolding ranges flatMap
+  items-absent i h n [] = refl
+  items-absent i h n (s ∷ ss) =
+      ranges-append i (boxed s) (flatMap boxed ss) ∙ rw (ranges-container i item (o + s .at) (o + s .at + s .len) (inside s), h, n s) (items-absent i h n ss)
+
+  items-placed : ((s : Span) → ranges item (inside s) ≡ []) → (ss : List Span) → ranges item (flatMap boxed ss) ≡ placed o ss
+  unfolding ranges flatMap
+  items-placed n [] = refl
+  items-placed n (s ∷ ss) =
+      ranges-append item (boxed s) (flatMap boxed ss)
+      ∙ rw (ranges-container item item (o + s .at) (o + s .at + s .len) (inside s), eq-eqb item item refl, n s)
+      (ap (λ (x : List Range). range (o + s .at) (o + s .at + s .len) ∷ x) (items-placed n ss))
+
+-- One theorem for every list: entries before an array of containers, the array, and what is left of the body.
+module _ (r : Rule) (b : List ℕ) (count from o array item unparsed : ℕ) (inside : Span → List Entry) (ok : ℕ → Bool)
+    (ok-array : ok array ≡ false) (ok-item : ok item ≡ false) (apart : eqb array item ≡ false) (apart′ : eqb item array ≡ false)
+    (nested : (s : Span) → Nested ok (inside s)) where
+  pub shows : (before : List Entry) → Nested ok before → (es : List Entry) (tail : ℕ)
+      → es ≡ before ++ (listing array (λ (s : Span). container item (o + s .at) (o + s .at + s .len) (inside s)) o from (cut r b count from) ++ leftover unparsed b o (after from (cut r b count from)))
+      → tail ≡ length b - after from (cut r b count from)
+      → Shows r b count from o array item unparsed es tail
+  unfolding listing
+  shows before n es tail e t =
+      let ss = cut r b count from in
+      let box : Span → List Entry = λ (s : Span). container item (o + s .at) (o + s .at + s .len) (inside s) in
+      let rest = leftover unparsed b o (after from ss) in
+      let arr = container array (o + from) (o + after from ss) (flatMap box ss) in
+      record {
+        cut-is = is-cut r b count from;
+        cut-only = only r b count from;
+        items = ap (ranges item) e ∙ (ranges-append item before (arr ++ rest) ∙ (rw (absent item ok-item n)
+            (ranges-append item arr rest ∙ (rw (absent item ok-item (nested-leftover ok unparsed b o (after from ss)), append-nil, ranges-container item array (o + from) (o + after from ss) (flatMap box ss), apart′)
+            (items-placed o item inside (λ s. absent item ok-item (nested s)) ss)))));
+        arrays = ap (ranges array) e ∙ (ranges-append array before (arr ++ rest) ∙ (rw (absent array ok-array n)
+            (ranges-append array arr rest ∙ (rw (absent array ok-array (nested-leftover ok unparsed b o (after from ss)), append-nil, ranges-container array array (o + from) (o + after from ss) (flatMap box ss), eq-eqb array array refl)
+            (ap (λ (x : List Range). range (o + from) (o + after from ss) ∷ x) (items-absent o item inside array apart (λ s. absent array ok-array (nested s)) ss))))));
+        before = before;
+        inside = flatMap box ss;
+        shape = e;
+        tail-is = t;
+      }
+
+-- The links of a Router-LSA of version 2.
+links-shown : (d : List ℕ) (o : ℕ) → getD d 3 0 ≡ 1 → 4 ≤ length (drop headerSize d)
+    → Shows linkRule (drop headerSize d) (be16At (drop headerSize d) 2) 4 (o + headerSize) 16 96 25 (v2.lsaEntries2 d o) (v2.lsaTail2 d)
+unfolding v2.lsaEntries2 v2.lsaTail2 v2.body2 v2.routerLsa2 v2.link bodyEntries bodyTail
+links-shown d o h l =
+    let b = drop headerSize d in
+    let q = o + headerSize in
+    let m = le-ltb (length b) 4 l in
+    shows linkRule b (be16At b 2) 4 q 16 96 25 (linkInside b q) tos refl refl refl refl (nested-link-inside tos refl refl b q)
+    (headerEntries2 d o ++ (v2.routerFlags b q ++ (u16At 15 b q 2 ∷ [])))
+    (nested-append tos (nested-header2 tos d o) (nested-fields tos (v2.routerFlags b q ++ (u16At 15 b q 2 ∷ [])) refl))
+    _ _
+    (rw (h, m) (sym (append-assoc (headerEntries2 d o) _ _)))
+    (rw (h, m) refl)
+  where
+    tos : ℕ → Bool
+    tos i = cond (eqb i 69) true (eqb i 97)
+
+-- The prefixes of a Link-LSA and of an Intra-Area-Prefix-LSA of version 3.
+no-container : ℕ → Bool
+no-container i = false
+
+link-prefixes-shown : (d : List ℕ) (o : ℕ) → v3.functionCode d ≡ 8 → 24 ≤ length (drop headerSize d)
+    → Shows prefixRule (drop headerSize d) (be32At (drop headerSize d) 20) 24 (o + headerSize) 29 97 33 (v3.lsaEntries3 d o) (v3.lsaTail3 d)
+unfolding v3.lsaEntries3 v3.lsaTail3 v3.body3 v3.linkLsa v3.prefix bodyEntries bodyTail no-container
+link-prefixes-shown d o h l =
+    let b = drop headerSize d in
+    let q = o + headerSize in
+    let m = le-ltb (length b) 24 l in
+    let fixed = u8At 26 b q 0 ∷ v3.options b q ∷ ip6At 27 b q 4 16 ∷ u32At 28 b q 20 ∷ [] in
+    shows prefixRule b (be32At b 20) 24 q 29 97 33 (prefixInside false b q) no-container refl refl refl refl (nested-prefix-inside no-container false b q)
+    (headerEntries3 d o ++ fixed)
+    (nested-append no-container (nested-header3 no-container d o) (nested-fields no-container fixed refl))
+    _ _
+    (rw (h, m) (sym (append-assoc (headerEntries3 d o) fixed _)))
+    (rw (h, m) refl)
+
+area-prefixes-shown : (d : List ℕ) (o : ℕ) → v3.functionCode d ≡ 9 → 12 ≤ length (drop headerSize d)
+    → Shows prefixRule (drop headerSize d) (be16At (drop headerSize d) 0) 12 (o + headerSize) 29 97 33 (v3.lsaEntries3 d o) (v3.lsaTail3 d)
+unfolding v3.lsaEntries3 v3.lsaTail3 v3.body3 v3.intraAreaPrefixLsa v3.prefix bodyEntries bodyTail no-container
+area-prefixes-shown d o h l =
+    let b = drop headerSize d in
+    let q = o + headerSize in
+    let m = le-ltb (length b) 12 l in
+    let fixed = wide16At 28 b q 0 ∷ v3.references b q in
+    shows prefixRule b (be16At b 0) 12 q 29 97 33 (prefixInside true b q) no-container refl refl refl refl (nested-prefix-inside no-container true b q)
+    (headerEntries3 d o ++ fixed)
+    (nested-append no-container (nested-header3 no-container d o) (nested-fields no-container fixed refl))
+    _ _
+    (rw (h, m) (sym (append-assoc (headerEntries3 d o) fixed _)))
+    (rw (h, m) refl)
+
+-- The lists inside any LSA.
+pub lsa-shows : (v : ℕ) (d : List ℕ) (o : ℕ) → LsaShows v d o (lsaEntries v d o) (lsaTail v d)
+lsa-shows v d o = record {
+  links = λ e h l. rw e (links-shown d o h l);
+  link-prefixes = λ e h l. rw e (link-prefixes-shown d o h l);
+  area-prefixes = λ e h l. rw e (area-prefixes-shown d o h l);
+}
+
+-- What a strip of these entries reads as, wherever the buffer's other bytes stand.
+pub read-strip : (es : List Entry) (before : List ℕ) → length (encode es) ≤ length before
+    → readAll (take (length (encode es)) (sets before 0 (encode es))) ≡ some es
+read-strip es before h =
+    let e : sets before 0 (encode es) ≡ encode es ++ drop (length (encode es)) before = simp zero-add at (sets-eq (encode es) before 0 (omega arith)) in
+    rw (e, take-append-seam (encode es) (drop (length (encode es)) before)) (read-encode es)

@@ -1,0 +1,119 @@
+-- What every accepted call of a walk shows, and when each refusal is answered.
+use Prim.Native.Nat.{ℕ, _+_, _-_, _/_, _≤_, _<_}
+use native.Mathlib.Omega.{arith}
+use mathlib.Core.Path.{_≡_, refl, sym, ap, _∙_, subst}
+use mathlib.Core.Logic.{_↔_}
+use mathlib.Core.Bool.{Bool, true, false, cond}
+use mathlib.Core.List.{List, [], _∷_, _++_, map, flatMap}
+use mathlib.Core.Option.{some}
+use lib.ListN.{length, take, length-map, length-append}
+use lib.Seq.{sets, length-take-le, length-sets}
+use lib.Dec.{eqb, ltb}
+use borrow.Author.Tests.{ltb-true, ltb-false, eqb-true, eqb-false, lt-ltb, le-ltb, eq-eqb, ne-eqb}
+use Rattle.format.specs.Bytes.{part}
+use Rattle.format.specs.Strip.{Entry, code, encode, readAll, container}
+use Rattle.format.specs.Cut.{Span, cut, after, recordRule, fixedRule}
+use Rattle.format.specs.Header.{headerSize, headerEntries2, headerEntries3}
+use Rattle.format.specs.Body.{listing, leftover, whole}
+use Rattle.format.specs.V2.{lsaEntries2}
+use Rattle.format.specs.V3.{lsaEntries3}
+use Rattle.format.specs.Walks.{Outcome, Answer, answer, answerOf, stripOf, unless, refusal, maxData, maxOffset, headersOf, updateOf, lsaOf, lsaEntries, lsaTail, headerEntries, lsaObject, headerObject, outer, unparsedId, lsas, headers}
+use Rattle.format.specs.Walks.Outcome.{refused, accepted}
+use Rattle.format.specs.Shown.{Range, ranges, placed, Shows, UpdateShows, OneShows, HeadersShow}
+use Rattle.format.specs.Shown.Nested.{none}
+use Rattle.format.proofs.NestedLsa.{below, nested-lsa, nested-header}
+use Rattle.format.proofs.Shown.{shows, lsa-shows, read-strip}
+use Rattle.format.proofs.Lists.{length-listing}
+use Rattle.format.proofs.Loop.{spread}
+use Rattle.format.proofs.Wrote.{encode-append}
+
+-- An answer of 0 is that of an accepted outcome whose strip has room.
+record Taken (n : ℕ) (es : List Entry) (r t : ℕ) (before : List ℕ) : Type 0 where
+  fits : length (encode es) ≤ length before
+  answered : answerOf (unless n (accepted es r t)) (length before) ≡ answer 0 (length (encode es)) r t
+  written : stripOf (unless n (accepted es r t)) before ≡ sets before 0 (encode es)
+
+taken : (n : ℕ) (es : List Entry) (r t : ℕ) (before : List ℕ) → answerOf (unless n (accepted es r t)) (length before) .number ≡ 0 → Taken n es r t before
+unfolding unless answerOf stripOf
+taken n es r t before h = go (eqb n 0) refl (ltb (length before) (length (encode es))) refl h
+  where
+    go : (s : Bool) → eqb n 0 ≡ s → (f : Bool) → ltb (length before) (length (encode es)) ≡ f
+        → answerOf (cond s (accepted es r t) (refused n)) (length before) .number ≡ 0 → Taken n es r t before
+    go true p false q h = record { fits = ltb-false _ _ q; answered = rw (p, q); written = rw (p, q) }
+    go true p true q h = let z = rw q at h in absurd (omega arith)
+    go false p f q h = absurd (eqb-false n 0 p h)
+
+-- The bytes that an accepted call left.
+strip-length : {n : ℕ} {es : List Entry} {r t : ℕ} {before : List ℕ} (k : Taken n es r t before) → length (take (length (encode es)) (sets before 0 (encode es))) ≡ length (encode es)
+strip-length {es = es} {before = before} k = length-take-le (length (encode es)) (sets before 0 (encode es)) (rw (length-sets before 0 (encode es)) (k .fits))
+
+-- An outer array has eleven bytes at least, and a header object's fields more.
+outer-longer : (v : ℕ) (f : Span → List Entry) (d : List ℕ) (o p : ℕ) (ss : List Span) → 0 < length (encode (outer v f d o p ss))
+unfolding outer
+outer-longer v f d o p ss =
+    let l = length-listing 114 f o p ss in
+    rw (encode-append (listing 114 f o p ss) (leftover (unparsedId v) d o (after p ss)), length-append) (omega arith)
+
+lsa-longer : (v : ℕ) (d : List ℕ) (o : ℕ) → 0 < length (encode (lsaEntries v d o))
+unfolding lsaEntries2 lsaEntries3 headerEntries2 headerEntries3 encode code
+lsa-longer v d o = go (eqb v 2)
+  where
+    go : (t : Bool) → 0 < length (encode (cond t (lsaEntries2 d o) (lsaEntries3 d o)))
+    go true = omega arith
+    go false = omega arith
+
+-- Demand 3 for updates: every accepted update shows the cut of its records, and each record the lists inside it.
+pub update-shows : (v : ℕ) (d : List ℕ) (count o : ℕ) (before : List ℕ) → answerOf (updateOf v d count o) (length before) .number ≡ 0
+    → UpdateShows v d count o (take (answerOf (updateOf v d count o) (length before) .size) (stripOf (updateOf v d count o) before))
+    (answerOf (updateOf v d count o) (length before) .records) (answerOf (updateOf v d count o) (length before) .tail)
+unfolding updateOf outer lsaObject listing
+update-shows v d count o before h =
+    let es = outer v (lsaObject v d o) d o 4 (lsas d count) in
+    let k = taken (refusal v d o 4) es (length (lsas d count)) (length d - after 4 (lsas d count)) before h in
+    let sh = shows recordRule d count 4 o 114 113 (unparsedId v) (λ (s : Span). lsaEntries v (part d (s .at) (s .len)) (o + s .at)) below refl refl refl refl
+    (λ s. nested-lsa v (part d (s .at) (s .len)) (o + s .at)) [] none es (length d - after 4 (lsas d count)) refl refl in
+    rw (k .answered, k .written) (record {
+      entries = es;
+      read = read-strip es before (k .fits);
+      shows = sh;
+      objects = refl;
+      nested = λ s. nested-lsa v (part d (s .at) (s .len)) (o + s .at);
+      lists = λ s. lsa-shows v (part d (s .at) (s .len)) (o + s .at);
+      counted = refl;
+      objects-counted = ap length (sh .items) ∙ length-map (lsas d count) _;
+      longer = rw (strip-length k) (outer-longer v (lsaObject v d o) d o 4 (lsas d count));
+    })
+
+-- Demand 3 for a single LSA.
+pub one-shows : (v : ℕ) (d : List ℕ) (o : ℕ) (before : List ℕ) → answerOf (lsaOf v d o) (length before) .number ≡ 0
+    → OneShows v d o (take (answerOf (lsaOf v d o) (length before) .size) (stripOf (lsaOf v d o) before))
+    (answerOf (lsaOf v d o) (length before) .records) (answerOf (lsaOf v d o) (length before) .tail)
+unfolding lsaOf
+one-shows v d o before h =
+    let es = lsaEntries v d o in
+    let k = taken (refusal v d o headerSize) es 1 (lsaTail v d) before h in
+    rw (k .answered, k .written) (record {
+      entries = es;
+      read = read-strip es before (k .fits);
+      lists = lsa-shows v d o;
+      counted = refl;
+      longer = rw (strip-length k) (lsa-longer v d o);
+    })
+
+-- The same of a header list, whose headers are all that fit.
+pub headers-show : (v : ℕ) (d : List ℕ) (o : ℕ) (before : List ℕ) → answerOf (headersOf v d o) (length before) .number ≡ 0
+    → HeadersShow v d o (take (answerOf (headersOf v d o) (length before) .size) (stripOf (headersOf v d o) before))
+    (answerOf (headersOf v d o) (length before) .records) (answerOf (headersOf v d o) (length before) .tail)
+unfolding headersOf outer headerObject listing whole
+headers-show v d o before h =
+    let es = outer v (headerObject v d o) d o 0 (headers d) in
+    let k = taken (refusal v d o 0) es (length (headers d)) (length d - after 0 (headers d)) before h in
+    let sh = shows (fixedRule headerSize) d ((length d - 0) / headerSize) 0 o 114 112 (unparsedId v) (λ (s : Span). headerEntries v (part d (s .at) (s .len)) (o + s .at)) below refl refl refl refl
+    (λ s. nested-header v (part d (s .at) (s .len)) (o + s .at)) [] none es (length d - after 0 (headers d)) refl refl in
+    rw (k .answered, k .written) (record {
+      entries = es;
+      read = read-strip es before (k .fits);
+      shows = sh;
+      objects-counted = ap length (sh .items) ∙ length-map (headers d) _;
+      longer = rw (strip-length k) (outer-longer v (headerObject v d o) d o 0 (headers d));
+    })

@@ -1,0 +1,52 @@
+-- Laws of what is written.
+use Prim.Native.Nat.{ℕ, suc, _+_, _≤_, _<_}
+use native.Mathlib.Nat.{add-zero, add-suc, suc-add}
+use native.Mathlib.Omega.{arith}
+use mathlib.Core.Path.{_≡_, refl, ap, _∙_}
+use mathlib.Core.List.{List, [], _∷_, _++_, append-assoc}
+use lib.ListN.{length, set, length-append}
+use lib.Seq.{sets, length-sets, set-comm}
+use Rattle.format.specs.Wrote.{Wrote}
+use Rattle.format.specs.Strip.{Entry, code, encode}
+
+sets-append : (l : List ℕ) (at : ℕ) (xs ys : List ℕ) → sets (sets l at xs) (at + length xs) ys ≡ sets l at (xs ++ ys)
+sets-append l at [] ys = rw add-zero
+sets-append l at (x ∷ xs) ys = rw (add-suc, ← suc-add) (sets-append _ (suc at) xs ys)
+
+-- One run of bytes after another.
+pub then : {l₀ l₁ l₂ : List ℕ} {a₀ a₁ a₂ : ℕ} {xs ys : List ℕ} → Wrote l₀ a₀ xs l₁ a₁ → Wrote l₁ a₁ ys l₂ a₂ → Wrote l₀ a₀ (xs ++ ys) l₂ a₂
+then {l₀} {l₁} {l₂} {a₀} {a₁} {a₂} {xs} {ys} v w = record {
+  place = rw length-append (omega (arith, v .place, w .place));
+  contents = w .contents ∙ rw (v .place, v .contents) (sets-append l₀ a₀ xs ys);
+}
+
+-- Nothing written.
+pub nothing : (l : List ℕ) (a : ℕ) → Wrote l a [] l a
+nothing l a = record { place = rw add-zero; contents = refl }
+
+-- Writing keeps the buffer's length.
+pub kept : {l₀ l : List ℕ} {at a : ℕ} {bs : List ℕ} → Wrote l₀ at bs l a → length l ≡ length l₀
+kept {l₀} {l} {at} {a} {bs} w = rw (w .contents) (length-sets l₀ at bs)
+
+pub encode-append : (xs ys : List Entry) → encode (xs ++ ys) ≡ encode xs ++ encode ys
+unfolding encode
+encode-append [] ys = refl
+encode-append (x ∷ xs) ys = rw (encode-append xs ys, append-assoc)
+
+-- A store before a run of bytes and the run itself change places.
+set-sets : (l : List ℕ) (i x j : ℕ) (ys : List ℕ) → i < j → set (sets l j ys) i x ≡ sets (set l i x) j ys
+set-sets l i x j [] h = refl
+set-sets l i x j (y ∷ ys) h =
+    set-sets (set l j y) i x (suc j) ys (omega arith) ∙ ap (λ (k : List ℕ). sets k (suc j) ys) (set-comm l j i y x (λ e. omega arith))
+
+sets-sets : (l : List ℕ) (i : ℕ) (xs : List ℕ) (j : ℕ) (ys : List ℕ) → i + length xs ≤ j → sets (sets l j ys) i xs ≡ sets (sets l i xs) j ys
+sets-sets l i [] j ys h = refl
+sets-sets l i (x ∷ xs) j ys h =
+    ap (λ (k : List ℕ). sets k (suc i) xs) (set-sets l i x j ys (omega arith)) ∙ sets-sets (set l i x) (suc i) xs j ys (omega arith)
+
+-- A run of bytes, and then the run that stands before it: as where an array is opened once its end is known.
+pub before : {l₀ l₁ l₂ : List ℕ} {a a₁ a₂ : ℕ} {xs ys : List ℕ} → Wrote l₀ (a + length xs) ys l₁ a₁ → Wrote l₁ a xs l₂ a₂ → Wrote l₀ a (xs ++ ys) l₂ a₁
+before {l₀} {l₁} {l₂} {a} {a₁} {a₂} {xs} {ys} v w = record {
+  place = rw length-append (omega (arith, v .place));
+  contents = w .contents ∙ rw (v .contents) (sets-sets l₀ a xs (a + length xs) ys (omega arith) ∙ sets-append l₀ a xs ys);
+}

@@ -1,0 +1,45 @@
+-- What the LSA bodies of both versions share: lists, and what follows the part that is decoded.
+use Prim.Native.Nat.{ℕ, _+_, _-_, _/_}
+use mathlib.Core.Bool.{cond}
+use mathlib.Core.List.{List, [], _∷_, _++_, flatMap}
+use lib.ListN.{length}
+use lib.Dec.{ltb}
+use Rattle.format.specs.Strip.{Entry, container, ip4At}
+use Rattle.format.specs.Strip.Entry.{bytes}
+use Rattle.format.specs.Cut.{Span, cut, after, fixedRule}
+
+-- A body is decoded, up to a place, or it is raw.
+pub data Body : Type 0 where
+  decoded : (entries : List Entry) (consumed : ℕ) → Body
+  raw : Body
+
+-- An array of the entries of a list that begins at p and ends after its last span.
+unfoldable pub listing : ℕ → (Span → List Entry) → ℕ → ℕ → List Span → List Entry
+listing i f o p ss = container i (o + p) (o + after p ss) (flatMap f ss)
+
+-- The same, not opened where the list is empty.
+unfoldable pub listingIfAny : ℕ → (Span → List Entry) → ℕ → ℕ → List Span → List Entry
+listingIfAny i f o p [] = []
+listingIfAny i f o p (s ∷ ss) = listing i f o p (s ∷ ss)
+
+-- As many entries of n bytes as b holds from p on.
+unfoldable pub whole : ℕ → List ℕ → ℕ → List Span
+whole n b p = cut (fixedRule n) b ((length b - p) / n) p
+
+-- The bytes from p to the end of b, where there are any.
+unfoldable pub leftover : ℕ → List ℕ → ℕ → ℕ → List Entry
+leftover i b o p = cond (ltb p (length b)) (bytes i (o + p) (o + length b) ∷ []) []
+
+-- A body's entries, with what is left of it: unparsed bytes after what was decoded, or the whole of a raw body.
+unfoldable pub bodyEntries : (rawId unparsedId : ℕ) → Body → List ℕ → ℕ → List Entry
+bodyEntries r u (decoded es n) b o = es ++ leftover u b o n
+bodyEntries r u raw b o = leftover r b o 0
+
+-- How many bytes stay unparsed. A raw body leaves none.
+unfoldable pub bodyTail : Body → List ℕ → ℕ
+bodyTail (decoded es n) b = length b - n
+bodyTail raw b = 0
+
+-- A router's id in a Network-LSA of either version (RFC 2328 A.4.3, RFC 5340 A.4.4).
+unfoldable pub attachedRouter : List ℕ → ℕ → Span → List Entry
+attachedRouter b o s = ip4At 98 b o (s .at) ∷ []

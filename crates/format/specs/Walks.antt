@@ -1,0 +1,131 @@
+-- The three walks: a header list, a link-state update, a single LSA. What each makes of its data, or which refusal.
+use Prim.Native.Nat.{ℕ, _+_, _-_, _*_, _<_}
+use mathlib.Core.Path.{_≡_}
+use mathlib.Core.Logic.{_↔_}
+use mathlib.Core.Bool.{Bool, true, false, cond}
+use mathlib.Core.List.{List, [], _∷_, _++_}
+use lib.ListN.{length}
+use lib.Seq.{sets}
+use lib.Dec.{ltb, eqb}
+use Rattle.format.specs.Bytes.{part}
+use Rattle.format.specs.Strip.{Entry, encode, container}
+use Rattle.format.specs.Cut.{Span, cut, after, recordRule}
+use Rattle.format.specs.Header.{headerSize, headerEntries2, headerEntries3}
+use Rattle.format.specs.Body.{listing, whole, leftover}
+use Rattle.format.specs.V2.{lsaEntries2, lsaTail2}
+use Rattle.format.specs.V3.{lsaEntries3, lsaTail3}
+
+-- A choice on the version, 2 or 3.
+abbrev pub headerEntries : ℕ → List ℕ → ℕ → List Entry
+headerEntries v d o = cond (eqb v 2) (headerEntries2 d o) (headerEntries3 d o)
+
+abbrev pub lsaEntries : ℕ → List ℕ → ℕ → List Entry
+lsaEntries v d o = cond (eqb v 2) (lsaEntries2 d o) (lsaEntries3 d o)
+
+abbrev pub lsaTail : ℕ → List ℕ → ℕ
+lsaTail v d = cond (eqb v 2) (lsaTail2 d) (lsaTail3 d)
+
+abbrev pub unparsedId : ℕ → ℕ
+unparsedId v = cond (eqb v 2) 25 33
+
+-- A header in a header list, and an LSA in an update, each as an object around its entries.
+unfoldable pub headerObject : ℕ → List ℕ → ℕ → Span → List Entry
+headerObject v d o s = container 112 (o + s .at) (o + s .at + s .len) (headerEntries v (part d (s .at) (s .len)) (o + s .at))
+
+unfoldable pub lsaObject : ℕ → List ℕ → ℕ → Span → List Entry
+lsaObject v d o s = container 113 (o + s .at) (o + s .at + s .len) (lsaEntries v (part d (s .at) (s .len)) (o + s .at))
+
+-- The outer array of a list that begins at p, and the tail after it.
+unfoldable pub outer : ℕ → (Span → List Entry) → List ℕ → ℕ → ℕ → List Span → List Entry
+outer v f d o p ss = listing 114 f o p ss ++ leftover (unparsedId v) d o (after p ss)
+
+-- The headers of a list, and the LSAs of an update under its count.
+abbrev pub headers : List ℕ → List Span
+headers d = whole headerSize d 0
+
+abbrev pub lsas : List ℕ → ℕ → List Span
+lsas d count = cut recordRule d count 4
+
+-- The limits of a call: data of 16 bits of length, and an offset that keeps every place within 32 bits.
+abbrev pub maxData : ℕ
+maxData = 65535
+
+abbrev pub maxOffset : ℕ
+maxOffset = 4294901760
+
+abbrev pub isKnown : ℕ → Bool
+isKnown v = cond (eqb v 2) true (eqb v 3)
+
+-- The number of the refusal of a call that needs this many bytes at least, 0 where there is none. 1: the version is
+-- neither 2 nor 3; 2: too much data; 3: the offset is too large; 4: too little data.
+abbrev pub refusal : (version : ℕ) → List ℕ → (offset least : ℕ) → ℕ
+refusal v d o least =
+    cond (isKnown v)
+    (cond (ltb maxData (length d)) 2
+    (cond (ltb maxOffset o) 3
+    (cond (ltb (length d) least) 4
+    0)))
+    1
+
+-- What a walk comes to, whatever the room: a refusal, or entries with the number of records and of tail bytes.
+pub data Outcome : Type 0 where
+  refused : (number : ℕ) → Outcome
+  accepted : (entries : List Entry) (records tail : ℕ) → Outcome
+
+unfoldable pub unless : ℕ → Outcome → Outcome
+unless n x = cond (eqb n 0) x (refused n)
+
+unfoldable pub headersOf : ℕ → List ℕ → ℕ → Outcome
+headersOf v d o = unless (refusal v d o 0) (accepted (outer v (headerObject v d o) d o 0 (headers d)) (length (headers d)) (length d - after 0 (headers d)))
+
+unfoldable pub updateOf : ℕ → List ℕ → (count : ℕ) → ℕ → Outcome
+updateOf v d count o = unless (refusal v d o 4) (accepted (outer v (lsaObject v d o) d o 4 (lsas d count)) (length (lsas d count)) (length d - after 4 (lsas d count)))
+
+unfoldable pub lsaOf : ℕ → List ℕ → ℕ → Outcome
+lsaOf v d o = unless (refusal v d o headerSize) (accepted (lsaEntries v d o) 1 (lsaTail v d))
+
+-- A walk's answer.
+pub record Answer : Type 0 where
+  pub number : ℕ
+  pub size : ℕ
+  pub records : ℕ
+  pub tail : ℕ
+
+abbrev pub answer : ℕ → ℕ → ℕ → ℕ → Answer
+answer n l r t = record { number = n; size = l; records = r; tail = t }
+
+-- The answer where the lent buffer has this much room. 5: the whole strip is longer; then its length is answered too.
+unfoldable pub answerOf : Outcome → (room : ℕ) → Answer
+answerOf (refused n) room = answer n 0 0 0
+answerOf (accepted es r t) room = cond (ltb room (length (encode es))) (answer 5 (length (encode es)) 0 0) (answer 0 (length (encode es)) r t)
+
+-- The buffer after the call: the strip at its front, or as it was.
+unfoldable pub stripOf : Outcome → List ℕ → List ℕ
+stripOf (refused n) before = before
+stripOf (accepted es r t) before = cond (ltb (length before) (length (encode es))) before (sets before 0 (encode es))
+
+-- The answer to the host, in one number of 64 bits: the length in the low 32, the number in the next 8.
+abbrev pub packed : Answer → ℕ
+packed a = a .number * 4294967296 + a .size
+
+-- The conditions of the refusals, in their order.
+abbrev pub NoVersion : ℕ → Type 0
+NoVersion v = (v ≡ 2 → ⊥) × (v ≡ 3 → ⊥)
+
+abbrev pub TooMuch : List ℕ → Type 0
+TooMuch d = maxData < length d
+
+abbrev pub TooFar : ℕ → Type 0
+TooFar o = maxOffset < o
+
+abbrev pub TooLittle : List ℕ → ℕ → Type 0
+TooLittle d least = length d < least
+
+-- Each number is answered exactly when its condition holds and none before it does. `needed` is the strip's length.
+pub record Refusals (v : ℕ) (d : List ℕ) (o least room needed number : ℕ) : Type 0 where
+  pub one : (number ≡ 1) ↔ NoVersion v
+  pub two : (number ≡ 2) ↔ ((NoVersion v → ⊥) × TooMuch d)
+  pub three : (number ≡ 3) ↔ ((NoVersion v → ⊥) × (TooMuch d → ⊥) × TooFar o)
+  pub four : (number ≡ 4) ↔ ((NoVersion v → ⊥) × (TooMuch d → ⊥) × (TooFar o → ⊥) × TooLittle d least)
+  pub five : (number ≡ 5) ↔ ((NoVersion v → ⊥) × (TooMuch d → ⊥) × (TooFar o → ⊥) × (TooLittle d least → ⊥) × (room < needed))
+  pub zero : (number ≡ 0) ↔ ((NoVersion v → ⊥) × (TooMuch d → ⊥) × (TooFar o → ⊥) × (TooLittle d least → ⊥) × (room < needed → ⊥))

@@ -1,0 +1,82 @@
+// The entries of a version 2 LSA header (RFC 2328 A.4.1, RFC 5250 3).
+ghost use mathlib.Core.Path.{_≡_};
+ghost use Prim.Native.Nat.{ℕ, _+_, _≤_, _<_};
+ghost use lib.ListN.{length};
+ghost use Rattle.format.specs.Header.{headerSize, headerEntries2, identityEntries2, opaqueEntries, isOpaque};
+ghost use Rattle.format.specs.Strip.{encode};
+ghost use Rattle.format.specs.Wrote.{Wrote};
+use crate::push_instance_fields;
+use strip::push::push_ipv4_at;
+use strip::push::push_u8_at;
+use strip::push::push_u16_at;
+use strip::push::push_u24_at;
+
+// Field ids. Those of the LS checksum and the length follow that of the LS sequence number.
+const LS_AGE: u8 = 0;
+
+const OPTIONS: u8 = 1;
+
+const LS_TYPE: u8 = 2;
+
+const LINK_STATE_ID: u8 = 3;
+
+const ADVERTISING_ROUTER: u8 = 4;
+
+const LS_SEQUENCE_NUMBER: u8 = 5;
+
+const OPAQUE_TYPE: u8 = 8;
+
+const OPAQUE_ID: u8 = 9;
+
+pub fn is_opaque(ls_type: u8) -> bool
+    ensures { λ r. ⌜ r ≡ isOpaque «ls_type» ⌝ }
+{
+    if 9 <= ls_type { ls_type <= 11 } else { false }
+}
+
+// The length of what `push_lsa_header_fields` writes, wherever the header lies.
+pub fn measure_lsa_header_fields(body: &[u8]) -> usize
+    requires { ⌜ headerSize ≤ length (now body) ⌝ }
+    ensures { λ r. ⌜ ((o : ℕ) → r ≡ length (encode (headerEntries2 (now (body .entry)) o))) ⌝ }
+{
+    if is_opaque(body[3]) { 125 } else { 100 }
+}
+
+pub fn push_lsa_header_fields(strip: &mut [u8], at: usize, body: &[u8], o: u32) -> usize
+    requires { ⌜ at + length (encode (headerEntries2 (now body) o)) ≤ length (now strip) ⌝ }
+    requires { ⌜ headerSize ≤ length (now body) ⌝ }
+    requires { ⌜ o + length (now body) < 4294967296 ⌝ }
+    ensures { λ r. ⌜ Wrote (now (strip .entry)) at (encode (headerEntries2 (now (body .entry)) o)) (now (strip .exit)) r ⌝ }
+{
+    let a = push_identity_fields(strip, at, body, o);
+    let b = push_instance_fields(strip, a, LS_SEQUENCE_NUMBER, body, o);
+    if is_opaque(body[3]) {
+        push_opaque_fields(strip, b, body, o)
+    } else {
+        b
+    }
+}
+
+fn push_identity_fields(strip: &mut [u8], at: usize, body: &[u8], o: u32) -> usize
+    requires { ⌜ at + 62 ≤ length (now strip) ⌝ }
+    requires { ⌜ headerSize ≤ length (now body) ⌝ }
+    requires { ⌜ o + length (now body) < 4294967296 ⌝ }
+    ensures { λ r. ⌜ Wrote (now (strip .entry)) at (encode (identityEntries2 (now (body .entry)) o)) (now (strip .exit)) r ⌝ }
+{
+    let a = push_u16_at(strip, at, LS_AGE, body, 0, o);
+    let b = push_u8_at(strip, a, OPTIONS, body, 2, o);
+    let c = push_u8_at(strip, b, LS_TYPE, body, 3, o);
+    let d = push_ipv4_at(strip, c, LINK_STATE_ID, body, 4, o);
+    push_ipv4_at(strip, d, ADVERTISING_ROUTER, body, 8, o)
+}
+
+// The Link State ID of an opaque LSA, as its two parts.
+fn push_opaque_fields(strip: &mut [u8], at: usize, body: &[u8], o: u32) -> usize
+    requires { ⌜ at + 25 ≤ length (now strip) ⌝ }
+    requires { ⌜ headerSize ≤ length (now body) ⌝ }
+    requires { ⌜ o + length (now body) < 4294967296 ⌝ }
+    ensures { λ r. ⌜ Wrote (now (strip .entry)) at (encode (opaqueEntries (now (body .entry)) o)) (now (strip .exit)) r ⌝ }
+{
+    let a = push_u8_at(strip, at, OPAQUE_TYPE, body, 4, o);
+    push_u24_at(strip, a, OPAQUE_ID, body, 5, o)
+}

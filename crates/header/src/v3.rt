@@ -1,0 +1,52 @@
+// The entries of a version 3 LSA header (RFC 5340 A.4.2).
+ghost use mathlib.Core.Path.{_≡_};
+ghost use Prim.Native.Nat.{ℕ, _+_, _≤_, _<_};
+ghost use mathlib.Core.List.{List};
+ghost use lib.ListN.{length};
+ghost use Rattle.format.specs.Header.{headerSize, headerEntries3, identityEntries3};
+ghost use Rattle.format.specs.Strip.{encode};
+ghost use Rattle.format.specs.Wrote.{Wrote};
+use crate::push_instance_fields;
+use strip::push::push_ipv4_at;
+use strip::push::push_u16_at;
+use strip::push::push_u32_at;
+
+// Field ids. Those of the LS checksum and the length follow that of the LS sequence number.
+const LS_AGE: u8 = 0;
+
+const LS_TYPE: u8 = 1;
+
+const LINK_STATE_ID: u8 = 2;
+
+const ADVERTISING_ROUTER: u8 = 3;
+
+const LS_SEQUENCE_NUMBER: u8 = 4;
+
+// The length of what `push_lsa_header_fields` writes, whatever the header says and wherever it lies.
+pub fn measure_lsa_header_fields() -> usize
+    ensures { λ r. ⌜ ((b : List ℕ) (o : ℕ) → r ≡ length (encode (headerEntries3 b o))) ⌝ }
+{
+    90
+}
+
+pub fn push_lsa_header_fields(strip: &mut [u8], at: usize, body: &[u8], o: u32) -> usize
+    requires { ⌜ at + length (encode (headerEntries3 (now body) o)) ≤ length (now strip) ⌝ }
+    requires { ⌜ headerSize ≤ length (now body) ⌝ }
+    requires { ⌜ o + length (now body) < 4294967296 ⌝ }
+    ensures { λ r. ⌜ Wrote (now (strip .entry)) at (encode (headerEntries3 (now (body .entry)) o)) (now (strip .exit)) r ⌝ }
+{
+    let a = push_identity_fields(strip, at, body, o);
+    push_instance_fields(strip, a, LS_SEQUENCE_NUMBER, body, o)
+}
+
+fn push_identity_fields(strip: &mut [u8], at: usize, body: &[u8], o: u32) -> usize
+    requires { ⌜ at + 52 ≤ length (now strip) ⌝ }
+    requires { ⌜ headerSize ≤ length (now body) ⌝ }
+    requires { ⌜ o + length (now body) < 4294967296 ⌝ }
+    ensures { λ r. ⌜ Wrote (now (strip .entry)) at (encode (identityEntries3 (now (body .entry)) o)) (now (strip .exit)) r ⌝ }
+{
+    let a = push_u16_at(strip, at, LS_AGE, body, 0, o);
+    let b = push_u16_at(strip, a, LS_TYPE, body, 2, o);
+    let c = push_u32_at(strip, b, LINK_STATE_ID, body, 4, o);
+    push_ipv4_at(strip, c, ADVERTISING_ROUTER, body, 8, o)
+}

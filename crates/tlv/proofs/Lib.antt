@@ -1,0 +1,3 @@
+-- The theorems about the code's answers and its loops.
+pub mod Laws
+pub mod Loops

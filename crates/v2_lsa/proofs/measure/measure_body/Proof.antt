@@ -1,0 +1,67 @@
+use borrow.Author.Needs.{needs}
+use native.Mathlib.Omega.{arith}
+use Rattle.v2_lsa.proofs.Types.{is-router, is-network, is-summary, is-external, is-opaque, is-raw}
+use Rattle.v2_lsa.proofs.measure.measure_body.Statement.{statement}
+use Rattle.v2_lsa.proofs.measure.measure_body.Tie as tie
+
+measure-router-lsa-requires : tie.Need-measure-router-lsa-requires
+measure-router-lsa-requires c κs = search needs
+
+measure-network-lsa-requires : tie.Need-measure-network-lsa-requires
+measure-network-lsa-requires c κs = search needs
+
+measure-external-lsa-requires : tie.Need-measure-external-lsa-requires
+measure-external-lsa-requires c κs = search needs
+
+measure-summary-lsa-requires : tie.Need-measure-summary-lsa-requires
+measure-summary-lsa-requires c κs = search needs
+
+measure-opaque-lsa-requires : tie.Need-measure-opaque-lsa-requires
+measure-opaque-lsa-requires c κs = search needs
+
+returns : tie.Need-returns
+returns c = λ o. rw (is-router _ _ _ o (c .before .match .keys1)) (c .measure-router-lsa .ensures o)
+
+returns-2 : tie.Need-returns-2
+returns-2 c = λ o. rw (is-network _ _ _ o (c .before .match .keys2)) (c .measure-network-lsa .ensures o)
+
+returns-3 : tie.Need-returns-3
+returns-3 c = λ o. rw (is-external _ _ _ o (c .before .match .keys3)) (c .measure-external-lsa .ensures o)
+
+returns-4 : tie.Need-returns-4
+returns-4 c =
+    let s = c .before .before .before .before .before in
+    let m = c .before .before .before .match .rest in
+    λ o. rw (is-summary (s .args .ls-type) (s .args .opaque-type) (s .args .body .now) o (omega (arith, m .0 .0 .1, m .0 .1)) (omega arith)) (c .measure-summary-lsa .ensures o)
+
+returns-5 : tie.Need-returns-5
+returns-5 c =
+    let s = c .before .before .before .before .before .before .before in
+    λ o. rw (is-opaque (s .args .ls-type) (s .args .opaque-type) (s .args .body .now) o (omega arith) (omega arith)) (c .measure-opaque-lsa .ensures o)
+
+returns-6 : tie.Need-returns-6
+returns-6 c = λ o. rw (is-raw _ _ _ o (c .before .match .rest .0 .0 .1) (c .before .match .rest .0 .1) (c .before .match .rest .1) (λ h l. omega arith) (λ h l. omega arith))
+
+returns-7 : tie.Need-returns-7
+returns-7 c = λ o. rw (is-raw _ _ _ o (c .before .before .before .match .rest .0 .0 .1) (c .before .before .before .match .rest .0 .1) (c .before .before .before .match .rest .1) (λ h l. omega arith) (λ h l. omega arith))
+
+returns-8 : tie.Need-returns-8
+returns-8 c = λ o. rw (is-raw _ _ _ o (c .before .before .before .before .match .rest .0 .0 .1) (c .before .before .before .before .match .rest .0 .1) (c .before .before .before .before .match .rest .1) (λ h l. omega arith) (λ h l. omega arith))
+
+pub measure-body-spec : {M : Type 1} → statement M
+measure-body-spec =
+    tie.close
+    (tie.spec
+    measure-router-lsa-requires
+    measure-network-lsa-requires
+    measure-external-lsa-requires
+    measure-summary-lsa-requires
+    measure-opaque-lsa-requires
+    returns
+    returns-2
+    returns-3
+    returns-4
+    returns-5
+    returns-6
+    returns-7
+    returns-8)

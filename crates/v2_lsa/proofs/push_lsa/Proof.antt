@@ -1,0 +1,135 @@
+use Prim.Native.Nat.{_+_}
+use lib.ListN.{drop, length-drop}
+use native.Mathlib.Omega.{arith}
+use Rattle.body.proofs.Laws.{length-lsa, lsa-decoded, lsa-raw}
+use Rattle.format.specs.Header.{headerEntries2}
+use Rattle.format.specs.V2.{bodyOf2, lsaEntries2}
+use Rattle.v2_lsa.proofs.Laws.{to-the-end, room-decoded, room-raw}
+use borrow.Author.Needs.{needs}
+use Rattle.v2_lsa.proofs.push_lsa.Statement.{statement}
+use Rattle.v2_lsa.proofs.push_lsa.Tie as tie
+
+push-lsa-header-fields-requires : tie.Need-push-lsa-header-fields-requires
+unfolding lsaEntries2
+push-lsa-header-fields-requires c κs =
+    let s = c .before .before .before in
+    let d = s .args .lsa .now in
+    let o = s .args .o in
+    let l = length-lsa (headerEntries2 d o) 23 25 (bodyOf2 d o) (drop 20 d) (o + 20) in
+    omega arith
+
+sub-body : tie.Need-sub-body
+sub-body c = search needs
+
+part-body-start : tie.Need-part-body-start
+part-body-start c = search needs
+
+part-body-end : tie.Need-part-body-end
+part-body-end c = search needs
+
+cast-start : tie.Need-cast-start
+cast-start c = search needs
+
+add-start : tie.Need-add-start
+add-start c = search needs
+
+shared-slice-read-push-body : tie.Need-shared-slice-read-push-body
+shared-slice-read-push-body c = search needs
+
+shared-slice-read-push-body-2 : tie.Need-shared-slice-read-push-body-2
+shared-slice-read-push-body-2 c = search needs
+
+push-body-requires : tie.Need-push-body-requires
+unfolding lsaEntries2
+push-body-requires c κs =
+    let s = c .before .before .before .before .before .before .before .before .before .before in
+    let d = s .args .lsa .now in
+    let o = s .args .o in
+    let z = to-the-end d 20 in
+    let n = length-drop 20 d in
+    let l = length-lsa (headerEntries2 d o) 23 25 (bodyOf2 d o) (drop 20 d) (o + 20) in
+    rw z (omega arith)
+
+enum-known-pushed : tie.Need-enum-known-pushed
+enum-known-pushed c = search needs
+
+push-unparsed-requires : tie.Need-push-unparsed-requires
+unfolding lsaEntries2
+push-unparsed-requires c κs =
+    let s = c .before .before .before .before .before .before .before .before .before .before .before .before .before .before .before .before .before in
+    let d = s .args .lsa .now in
+    let o = s .args .o in
+    let z = to-the-end d 20 in
+    let n = length-drop 20 d in
+    let p = rw z at (c .before .before .before .before .before .before .push-body .ensures) in
+    let w = c .before .before .before .before .before .before .before .before .before .before .before .before .before .push-lsa-header-fields .ensures .place in
+    let l = room-decoded (headerEntries2 d o) 23 25 (bodyOf2 d o) (drop 20 d) (o + 20) _ (s .args .at) _ _ (p .answer) (c .before .before .pushed .given .1) w (s .pre .0) in
+    rw z (omega arith)
+
+enum-told : tie.Need-enum-told
+enum-told c = search needs
+
+push-unparsed-requires-2 : tie.Need-push-unparsed-requires-2
+unfolding lsaEntries2
+push-unparsed-requires-2 c κs =
+    let s = c .before .before .before .before .before .before .before .before .before .before .before .before .before .before .before .before in
+    let d = s .args .lsa .now in
+    let o = s .args .o in
+    let z = to-the-end d 20 in
+    let n = length-drop 20 d in
+    let p = rw z at (c .before .before .before .before .before .push-body .ensures) in
+    let w = c .before .before .before .before .before .before .before .before .before .before .before .before .push-lsa-header-fields .ensures .place in
+    let l = room-raw (headerEntries2 d o) 23 25 (bodyOf2 d o) (drop 20 d) (o + 20) _ (s .args .at) (p .answer) (c .before .enum-told .given .1) w (s .pre .0) in
+    rw z (omega arith)
+
+same-length : tie.Need-same-length
+same-length c = search needs
+
+returns : tie.Need-returns
+unfolding lsaEntries2
+returns c =
+    let s = c .before .before .before .before .before .before .before .before .before .before .before .before .before .before .before .before .before .before .before .before in
+    let d = s .args .lsa .now in
+    let o = s .args .o in
+    let z = to-the-end d 20 in
+    let n = length-drop 20 d in
+    let p = rw z at (c .before .before .before .before .before .before .before .before .before .push-body .ensures) in
+    let w = rw z at (c .before .before .push-unparsed .ensures) in
+    lsa-decoded (headerEntries2 d o) 23 25 (bodyOf2 d o) (drop 20 d) (o + 20) _ (c .before .before .before .before .before .before .before .before .before .before .before .before .before .before .before .before .push-lsa-header-fields .ensures) p (c .before .before .before .before .before .pushed .given .1) w
+
+same-length-2 : tie.Need-same-length-2
+same-length-2 c = search needs
+
+returns-2 : tie.Need-returns-2
+unfolding lsaEntries2
+returns-2 c =
+    let s = c .before .before .before .before .before .before .before .before .before .before .before .before .before .before .before .before .before .before .before in
+    let d = s .args .lsa .now in
+    let o = s .args .o in
+    let z = to-the-end d 20 in
+    let n = length-drop 20 d in
+    let p = rw z at (c .before .before .before .before .before .before .before .before .push-body .ensures) in
+    let w = rw z at (c .before .before .push-unparsed2 .ensures) in
+    lsa-raw (headerEntries2 d o) 23 25 (bodyOf2 d o) (drop 20 d) (o + 20) _ (c .before .before .before .before .before .before .before .before .before .before .before .before .before .before .before .push-lsa-header-fields .ensures) p (c .before .before .before .before .enum-told .given .1) w
+
+pub push-lsa-spec : {M : Type 1} → statement M
+push-lsa-spec =
+    tie.close
+    (tie.spec
+    push-lsa-header-fields-requires
+    sub-body
+    part-body-start
+    part-body-end
+    cast-start
+    add-start
+    shared-slice-read-push-body
+    shared-slice-read-push-body-2
+    push-body-requires
+    enum-known-pushed
+    push-unparsed-requires
+    enum-told
+    push-unparsed-requires-2
+    same-length
+    returns
+    same-length-2
+    returns-2)

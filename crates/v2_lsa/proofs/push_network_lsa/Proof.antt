@@ -1,0 +1,45 @@
+use lib.ListN.{length}
+use borrow.Author.Tests.{lt-ltb, le-ltb}
+use native.Mathlib.Omega.{arith}
+use Rattle.body.proofs.Laws.{pushed-raw, pushed-decoded}
+use Rattle.format.proofs.Wrote.{then}
+use Rattle.format.specs.Strip.{encode, code}
+use Rattle.format.specs.V2.{networkLsa2}
+use borrow.Author.Needs.{needs}
+use Rattle.v2_lsa.proofs.push_network_lsa.Statement.{statement}
+use Rattle.v2_lsa.proofs.push_network_lsa.Tie as tie
+
+returns : tie.Need-returns
+unfolding networkLsa2
+returns c = rw (lt-ltb (length (c .before .before .before .args .body .now)) 4 (omega arith)) (pushed-raw _ _)
+
+push-ipv4-at-requires : tie.Need-push-ipv4-at-requires
+unfolding networkLsa2 encode code
+push-ipv4-at-requires c κs =
+    let b = c .before .before .before .before .args .body .now in
+    let t = le-ltb (length b) 4 (omega arith) in
+    let h = rw t at (c .before .before .before .before .pre .0) in
+    omega arith
+
+push-attached-routers-requires : tie.Need-push-attached-routers-requires
+unfolding networkLsa2 encode code
+push-attached-routers-requires c κs =
+    let b = c .before .before .before .before .before .before .before .before .args .body .now in
+    let t = le-ltb (length b) 4 (omega arith) in
+    let h = rw t at (c .before .before .before .before .before .before .before .before .pre .0) in
+    omega arith
+
+same-length : tie.Need-same-length
+same-length c = search needs
+
+returns-2 : tie.Need-returns-2
+unfolding networkLsa2 encode code
+returns-2 c =
+    let b = c .before .before .before .before .before .before .before .before .before .before .before .args .body .now in
+    let t = le-ltb (length b) 4 (omega arith) in
+    rw t (pushed-decoded _ _ _ (c .before .before .push-attached-routers .ensures .1) (then (c .before .before .before .before .before .before .push-ipv4-at .ensures) (c .before .before .push-attached-routers .ensures .0)))
+
+pub push-network-lsa-spec : {M : Type 1} → statement M
+push-network-lsa-spec =
+    tie.close
+    (tie.spec returns push-ipv4-at-requires push-attached-routers-requires same-length returns-2)

@@ -1,0 +1,152 @@
+use Prim.Native.Nat.{ℕ, _≤_, _<_}
+use native.Mathlib.Omega.{arith}
+use mathlib.Core.List.{[], _∷_, _++_}
+use mathlib.Core.Logic.{⊎-elim}
+use mathlib.Core.Path.{_≡_, refl}
+use borrow.Author.Needs.{needs}
+use Rattle.format.specs.Body.Body.{raw}
+use Rattle.format.specs.Strip.{u8At, encode, code}
+use Rattle.format.specs.V3.{routerFlags, options, references, tlvLsa, body3}
+use Rattle.v3_lsa.proofs.Functions.{router-body, network-body, inter-area-prefix-body, inter-area-router-body, external-body, link-body, intra-area-prefix-body, e-router-body, e-network-body, e-link-body, e-intra-area-prefix-body, tlv-body, tlv-body-between, no-body}
+use Rattle.v3_lsa.proofs.measure.measure_body.Statement.{statement}
+use Rattle.v3_lsa.proofs.measure.measure_body.Tie as tie
+
+measure-router-lsa-requires : tie.Need-measure-router-lsa-requires
+measure-router-lsa-requires c κs = search needs
+
+measure-network-lsa-requires : tie.Need-measure-network-lsa-requires
+measure-network-lsa-requires c κs = search needs
+
+measure-inter-area-prefix-lsa-requires : tie.Need-measure-inter-area-prefix-lsa-requires
+measure-inter-area-prefix-lsa-requires c κs = search needs
+
+measure-inter-area-router-lsa-requires : tie.Need-measure-inter-area-router-lsa-requires
+measure-inter-area-router-lsa-requires c κs = search needs
+
+measure-external-lsa-requires : tie.Need-measure-external-lsa-requires
+measure-external-lsa-requires c κs = search needs
+
+measure-link-lsa-requires : tie.Need-measure-link-lsa-requires
+measure-link-lsa-requires c κs = search needs
+
+measure-intra-area-prefix-lsa-requires : tie.Need-measure-intra-area-prefix-lsa-requires
+measure-intra-area-prefix-lsa-requires c κs = search needs
+
+add-measure-tlv-lsa : tie.Need-add-measure-tlv-lsa
+add-measure-tlv-lsa c = search needs
+
+measure-tlv-lsa-requires : tie.Need-measure-tlv-lsa-requires
+measure-tlv-lsa-requires c κs = search needs
+
+measure-tlv-lsa-requires-2 : tie.Need-measure-tlv-lsa-requires-2
+measure-tlv-lsa-requires-2 c κs = search needs
+
+add-measure-tlv-lsa-2 : tie.Need-add-measure-tlv-lsa-2
+add-measure-tlv-lsa-2 c = search needs
+
+measure-tlv-lsa-requires-3 : tie.Need-measure-tlv-lsa-requires-3
+measure-tlv-lsa-requires-3 c κs = search needs
+
+measure-tlv-lsa-requires-4 : tie.Need-measure-tlv-lsa-requires-4
+measure-tlv-lsa-requires-4 c κs = search needs
+
+measure-tlv-lsa-requires-5 : tie.Need-measure-tlv-lsa-requires-5
+measure-tlv-lsa-requires-5 c κs = search needs
+
+unknown : (c : tie.At-match-rest) → (35 ≤ c .before .before .args .function → c .before .before .args .function < 38 → ⊥) → (o : ℕ) → body3 (c .before .before .args .function) (c .before .before .args .body .now) o ≡ raw
+unknown c h o = let k = c .match .rest in no-body _ _ o (k .0 .0 .0 .0 .0 .0 .0 .0 .0 .0 .0 .1) (k .0 .0 .0 .0 .0 .0 .0 .0 .0 .0 .1) (k .0 .0 .0 .0 .0 .0 .0 .0 .0 .1) (k .0 .0 .0 .0 .0 .0 .0 .0 .1) (k .0 .0 .0 .0 .0 .0 .0 .1) (k .0 .0 .0 .0 .0 .0 .1) (k .0 .0 .0 .0 .0 .1) (k .0 .0 .0 .0 .1) (k .0 .0 .0 .1) (k .0 .0 .1) (k .0 .1) (k .1) h
+
+alone : (c : tie.At-match-came) (o : ℕ) → body3 (c .before .before .args .function) (c .before .before .args .body .now) o ≡ tlvLsa 0 [] (c .before .before .args .body .now) o
+alone c o =
+    ⊎-elim
+    (λ w. tlv-body _ _ o (w .keys8))
+    (λ w. let k = w .0 .rest in tlv-body-between _ _ o (w .1 .left) (k .0 .0 .0 .1) (k .0 .0 .1) (w .2 .taken))
+    (c .match .came)
+
+returns : tie.Need-returns
+returns c = λ o. rw (router-body _ _ o (c .before .match .keys1)) (c .measure-router-lsa .ensures o)
+
+returns-2 : tie.Need-returns-2
+returns-2 c = λ o. rw (network-body _ _ o (c .before .match .keys2)) (c .measure-network-lsa .ensures o)
+
+returns-3 : tie.Need-returns-3
+returns-3 c = λ o. rw (inter-area-prefix-body _ _ o (c .before .match .keys3)) (c .measure-inter-area-prefix-lsa .ensures o)
+
+returns-4 : tie.Need-returns-4
+returns-4 c = λ o. rw (inter-area-router-body _ _ o (c .before .match .keys4)) (c .measure-inter-area-router-lsa .ensures o)
+
+returns-5 : tie.Need-returns-5
+returns-5 c = λ o. rw (external-body _ _ o (c .before .match .keys5)) (c .measure-external-lsa .ensures o)
+
+returns-6 : tie.Need-returns-6
+returns-6 c = λ o. rw (link-body _ _ o (c .before .match .keys6)) (c .measure-link-lsa .ensures o)
+
+returns-7 : tie.Need-returns-7
+returns-7 c = λ o. rw (intra-area-prefix-body _ _ o (c .before .match .keys7)) (c .measure-intra-area-prefix-lsa .ensures o)
+
+returns-8 : tie.Need-returns-8
+unfolding encode code
+returns-8 c =
+    let b = c .before .before .before .args .body .now in
+    λ o. rw (e-router-body _ _ o (c .before .match .keys9)) (c .measure-tlv-lsa .ensures o (routerFlags b o ++ (options b o ∷ [])) refl)
+
+returns-9 : tie.Need-returns-9
+unfolding encode code
+returns-9 c =
+    let b = c .before .before .before .args .body .now in
+    λ o. rw (e-network-body _ _ o (c .before .match .keys10)) (c .measure-tlv-lsa2 .ensures o (options b o ∷ []) refl)
+
+returns-10 : tie.Need-returns-10
+unfolding encode code
+returns-10 c =
+    let b = c .before .before .before .args .body .now in
+    λ o. rw (e-link-body _ _ o (c .before .match .keys11)) (c .measure-tlv-lsa3 .ensures o (u8At 26 b o 0 ∷ options b o ∷ []) refl)
+
+returns-11 : tie.Need-returns-11
+unfolding encode code
+returns-11 c =
+    let b = c .before .before .before .args .body .now in
+    λ o. rw (e-intra-area-prefix-body _ _ o (c .before .match .keys12)) (c .measure-tlv-lsa4 .ensures o (references b o) refl)
+
+returns-12 : tie.Need-returns-12
+returns-12 c = λ o. rw (unknown (c .before) (λ g h. omega arith) o)
+
+returns-13 : tie.Need-returns-13
+returns-13 c = λ o. rw (unknown (c .before .before) (λ g h. omega arith) o)
+
+returns-14 : tie.Need-returns-14
+unfolding encode code
+returns-14 c = λ o. rw (alone (c .before) o) (c .measure-tlv-lsa5 .ensures o [] refl)
+
+pub measure-body-spec : {M : Type 1} → statement M
+measure-body-spec =
+    tie.close
+    (tie.spec
+    measure-router-lsa-requires
+    measure-network-lsa-requires
+    measure-inter-area-prefix-lsa-requires
+    measure-inter-area-router-lsa-requires
+    measure-external-lsa-requires
+    measure-link-lsa-requires
+    measure-intra-area-prefix-lsa-requires
+    add-measure-tlv-lsa
+    measure-tlv-lsa-requires
+    measure-tlv-lsa-requires-2
+    add-measure-tlv-lsa-2
+    measure-tlv-lsa-requires-3
+    measure-tlv-lsa-requires-4
+    measure-tlv-lsa-requires-5
+    returns
+    returns-2
+    returns-3
+    returns-4
+    returns-5
+    returns-6
+    returns-7
+    returns-8
+    returns-9
+    returns-10
+    returns-11
+    returns-12
+    returns-13
+    returns-14)

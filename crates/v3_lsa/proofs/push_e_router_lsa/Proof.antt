@@ -1,0 +1,58 @@
+use native.Mathlib.Omega.{arith}
+use mathlib.Core.List.{[], _∷_, _++_}
+use lib.ListN.{length}
+use borrow.Author.Needs.{needs}
+use borrow.Author.Tests.{lt-ltb, le-ltb}
+use Rattle.format.specs.Strip.{encode, code}
+use Rattle.format.specs.V3.{tlvLsa, routerFlags, options}
+use Rattle.format.proofs.Wrote.{then}
+use Rattle.body.proofs.Laws.{pushed-raw}
+use Rattle.v3_lsa.proofs.Bodies.{pushed-after}
+use Rattle.v3_lsa.proofs.push_e_router_lsa.Statement.{statement}
+use Rattle.v3_lsa.proofs.push_e_router_lsa.Tie as tie
+
+returns : tie.Need-returns
+unfolding tlvLsa
+returns c = rw (lt-ltb (length (c .before .before .before .args .body .now)) 4 (omega arith)) (pushed-raw _ _)
+
+push-router-flags-requires : tie.Need-push-router-flags-requires
+unfolding tlvLsa encode code
+push-router-flags-requires c κs =
+    let s = c .before .before .before .before in
+    let h = rw (le-ltb (length (s .args .body .now)) 4 (omega arith)) at (s .pre .0) in
+    omega arith
+
+push-options-requires : tie.Need-push-options-requires
+unfolding tlvLsa encode code
+push-options-requires c κs =
+    let s = c .before .before .before .before .before .before .before .before in
+    let h = rw (le-ltb (length (s .args .body .now)) 4 (omega arith)) at (s .pre .0) in
+    omega arith
+
+push-tlv-body-requires : tie.Need-push-tlv-body-requires
+unfolding tlvLsa encode code
+push-tlv-body-requires c κs =
+    let s = c .before .before .before .before .before .before .before .before .before .before .before .before in
+    let h = rw (le-ltb (length (s .args .body .now)) 4 (omega arith)) at (s .pre .0) in
+    omega arith
+
+same-length : tie.Need-same-length
+same-length c = search needs
+
+returns-2 : tie.Need-returns-2
+unfolding tlvLsa encode code
+returns-2 c =
+    let s = c .before .before .before .before .before .before .before .before .before .before .before .before .before .before .before .args in
+    let b = s .body .now in
+    rw (le-ltb (length b) 4 (omega arith)) (pushed-after (routerFlags b (s .o) ++ (options b (s .o) ∷ [])) _ _ (then (c .before .before .before .before .before .before .before .before .before .before .push-router-flags .ensures) (c .before .before .before .before .before .before .push-options .ensures)) (c .before .before .push-tlv-body .ensures))
+
+pub push-e-router-lsa-spec : {M : Type 1} → statement M
+push-e-router-lsa-spec =
+    tie.close
+    (tie.spec
+    returns
+    push-router-flags-requires
+    push-options-requires
+    push-tlv-body-requires
+    same-length
+    returns-2)

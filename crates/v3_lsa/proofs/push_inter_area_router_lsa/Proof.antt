@@ -1,0 +1,56 @@
+use native.Mathlib.Omega.{arith}
+use mathlib.Core.Path.{refl}
+use lib.ListN.{length}
+use borrow.Author.Needs.{needs}
+use borrow.Author.Tests.{lt-ltb, le-ltb}
+use Rattle.format.specs.Strip.{encode, code}
+use Rattle.format.specs.V3.{interAreaRouterLsa}
+use Rattle.format.proofs.Wrote.{then}
+use Rattle.body.proofs.Laws.{pushed-decoded, pushed-raw}
+use Rattle.v3_lsa.proofs.push_inter_area_router_lsa.Statement.{statement}
+use Rattle.v3_lsa.proofs.push_inter_area_router_lsa.Tie as tie
+
+returns : tie.Need-returns
+unfolding interAreaRouterLsa
+returns c = rw (lt-ltb (length (c .before .before .before .args .body .now)) 12 (omega arith)) (pushed-raw _ _)
+
+push-options-requires : tie.Need-push-options-requires
+unfolding interAreaRouterLsa encode code
+push-options-requires c κs =
+    let s = c .before .before .before .before in
+    let h = rw (le-ltb (length (s .args .body .now)) 12 (omega arith)) at (s .pre .0) in
+    omega arith
+
+push-metric24-at-requires : tie.Need-push-metric24-at-requires
+unfolding interAreaRouterLsa encode code
+push-metric24-at-requires c κs =
+    let s = c .before .before .before .before .before .before .before .before in
+    let h = rw (le-ltb (length (s .args .body .now)) 12 (omega arith)) at (s .pre .0) in
+    omega arith
+
+push-ipv4-at-requires : tie.Need-push-ipv4-at-requires
+unfolding interAreaRouterLsa encode code
+push-ipv4-at-requires c κs =
+    let s = c .before .before .before .before .before .before .before .before .before .before .before .before in
+    let h = rw (le-ltb (length (s .args .body .now)) 12 (omega arith)) at (s .pre .0) in
+    omega arith
+
+same-length : tie.Need-same-length
+same-length c = search needs
+
+returns-2 : tie.Need-returns-2
+unfolding interAreaRouterLsa encode code
+returns-2 c =
+    rw (le-ltb (length (c .before .before .before .before .before .before .before .before .before .before .before .before .before .before .before .args .body .now)) 12 (omega arith))
+    (pushed-decoded _ _ _ refl (then (then (c .before .before .before .before .before .before .before .before .before .before .push-options .ensures) (c .before .before .before .before .before .before .push-metric24-at .ensures)) (c .before .before .push-ipv4-at .ensures)))
+
+pub push-inter-area-router-lsa-spec : {M : Type 1} → statement M
+push-inter-area-router-lsa-spec =
+    tie.close
+    (tie.spec
+    returns
+    push-options-requires
+    push-metric24-at-requires
+    push-ipv4-at-requires
+    same-length
+    returns-2)

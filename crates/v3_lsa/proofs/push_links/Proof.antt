@@ -1,0 +1,80 @@
+use Prim.Native.Nat.{ℕ, _+_}
+use native.Mathlib.Omega.{arith}
+use mathlib.Core.Path.{sym, ap}
+use borrow.Author.Needs.{needs}
+use Rattle.format.specs.Body.{whole}
+use Rattle.format.specs.Strip.{code}
+use Rattle.format.specs.V3.{link}
+use Rattle.format.proofs.Lists.{listed, length-listing, whole-after}
+use Rattle.format.proofs.Loop.{spread}
+use Rattle.v3_lsa.proofs.push_links.Statement.{statement}
+use Rattle.v3_lsa.proofs.push_links.Tie as tie
+
+sub-count : tie.Need-sub-count
+sub-count c = search needs
+
+mul-end : tie.Need-mul-end
+mul-end c = search needs
+
+add-end : tie.Need-add-end
+add-end c = search needs
+
+add-begin-container : tie.Need-add-begin-container
+add-begin-container c = search needs
+
+cast-begin-container : tie.Need-cast-begin-container
+cast-begin-container c = search needs
+
+add-begin-container-2 : tie.Need-add-begin-container-2
+add-begin-container-2 c = search needs
+
+begin-container-requires : tie.Need-begin-container-requires
+unfolding spread whole code
+begin-container-requires c κs =
+    let s = c .before .before .before .args in
+    let b = s .body .now in
+    let l = length-listing 15 (link b (s .o)) (s .o) 4 (whole 16 b 4) in
+    omega arith
+
+push-link-entries-requires : tie.Need-push-link-entries-requires
+unfolding spread whole code
+push-link-entries-requires c κs =
+    let s = c .before .before .before .before .before .before .before .args in
+    let b = s .body .now in
+    let l = length-listing 15 (link b (s .o)) (s .o) 4 (whole 16 b 4) in
+    omega arith
+
+end-container-requires : tie.Need-end-container-requires
+unfolding spread whole code
+end-container-requires c κs =
+    let s = c .before .before .before .before .before .before .before .before .before .before .before .args in
+    let b = s .body .now in
+    let l = length-listing 15 (link b (s .o)) (s .o) 4 (whole 16 b 4) in
+    omega arith
+
+same-length : tie.Need-same-length
+same-length c = search needs
+
+returns : tie.Need-returns
+unfolding whole
+returns c =
+    let s = c .before .before .before .before .before .before .before .before .before .before .before .before .before .before .args in
+    let b = s .body .now in
+    let e = whole-after 16 b 4 (omega arith) in
+    (listed 15 (link b (s .o)) (s .o) 4 (whole 16 b 4) (ap (λ (x : ℕ). s .o + x) e) (c .before .before .before .before .before .before .before .before .before .before .begin-container .ensures) (c .before .before .before .before .before .before .push-link-entries .ensures) (c .before .before .end-container .ensures), sym e)
+
+pub push-links-spec : {M : Type 1} → statement M
+push-links-spec =
+    tie.close
+    (tie.spec
+    sub-count
+    mul-end
+    add-end
+    add-begin-container
+    cast-begin-container
+    add-begin-container-2
+    begin-container-requires
+    push-link-entries-requires
+    end-container-requires
+    same-length
+    returns)

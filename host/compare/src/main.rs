@@ -1,0 +1,41 @@
+//! Compares the walks behind `ospf-strip` with the oracle:
+//! `compare [ROUNDS [SEED]]`. Prints the inputs and calls by class.
+
+use std::env;
+use std::process::ExitCode;
+
+use compare::{Walks, compare};
+use inputs::{CLASSES, Class};
+use ospf_strip::walks;
+
+fn main() -> ExitCode {
+    let mut numbers = env::args().skip(1).map(|word| word.parse::<u64>());
+    let (Ok(rounds), Ok(seed)) = (
+        numbers.next().unwrap_or(Ok(1_000)),
+        numbers.next().unwrap_or(Ok(1)),
+    ) else {
+        eprintln!("usage: compare [ROUNDS [SEED]]");
+        return ExitCode::from(2);
+    };
+    let walks = Walks {
+        headers: walks::ospf_lsa_headers,
+        update: walks::ospf_lsu_lsas,
+        lsa: walks::ospf_lsa,
+    };
+    let mut total = (0, 0);
+    for class in CLASSES.into_iter().chain([Class::Captured]) {
+        match compare(walks, &[class], seed, rounds as u32) {
+            Ok(counts) => {
+                let (inputs, calls) = counts[&class];
+                total = (total.0 + inputs, total.1 + calls);
+                println!("{class:?}: {inputs} inputs, {calls} calls");
+            }
+            Err(difference) => {
+                println!("{difference}");
+                return ExitCode::FAILURE;
+            }
+        }
+    }
+    println!("all: {} inputs, {} calls, no difference", total.0, total.1);
+    ExitCode::SUCCESS
+}

@@ -1,0 +1,163 @@
+//! Intended differences between the port and the reference (part 3 of
+//! docs/DIFFERENCES.md): what the reference itself does in those places.
+
+use std::panic::{AssertUnwindSafe, catch_unwind};
+
+use packet_dissector_core::packet::{DissectBuffer, Event};
+
+use crate::ids::FD_OUTER;
+use crate::{Call, Outcome, Walk, common, v2_lsa, v3_lsa};
+
+fn call(version: u8, walk: Walk, data: &[u8]) -> Call<'_> {
+    Call {
+        version,
+        walk,
+        data,
+        count: 1,
+        offset: 0,
+    }
+}
+
+/// Whether the reference panics on this data, which the refusals let not
+/// through.
+fn panics(version: u8, walk: Walk, data: &[u8]) -> bool {
+    let call = call(version, walk, data);
+    catch_unwind(AssertUnwindSafe(|| call.record().events().len())).is_err()
+}
+
+#[test]
+fn refusal_4_stands_where_the_reference_panics() {
+    for version in [2, 3] {
+        for length in 0..=20 {
+            let data = vec![0; length];
+            assert_eq!(panics(version, Walk::Update, &data), length < 4, "{length}");
+            assert_eq!(panics(version, Walk::Lsa, &data), length < 20, "{length}");
+            assert!(!panics(version, Walk::Headers, &data));
+            let lsa = call(version, Walk::Lsa, &data).run();
+            assert_eq!(lsa == Outcome::Refused(4), length < 20);
+        }
+    }
+}
+
+#[test]
+fn refusal_2_stands_where_the_reference_goes_on() {
+    let data = vec![0; 65_540];
+    let mut buf = DissectBuffer::new();
+    let (object, push) = (&v3_lsa::FD_LSA_HEADER, v3_lsa::push_lsa_header_fields);
+    common::push_lsa_headers(&mut buf, &FD_OUTER, &data, 0, object, push);
+    let headers = buf.fields().iter().filter(|f| f.name() == "lsa_header");
+    assert_eq!(headers.count(), 3_277);
+    assert_eq!(call(3, Walk::Headers, &data).run(), Outcome::Refused(2));
+}
+
+#[test]
+fn refusal_3_stands_where_a_place_needs_more_than_32_bits() {
+    let data = vec![0; 65_535];
+    for (offset, fits) in [(4_294_901_760, true), (4_294_901_761, false)] {
+        let call = Call {
+            offset,
+            ..call(2, Walk::Headers, &data)
+        };
+        let end = call.record().fields().iter().map(|f| f.range.end).max();
+        assert_eq!(end.is_some_and(|end| u32::try_from(end).is_ok()), fits);
+        assert_eq!(call.run() == Outcome::Refused(3), !fits);
+    }
+}
+
+/// An opaque LSA with a router address TLV and three bytes that are none. The
+/// reference pushes an array with a TLV of three fields, then `unparsed`.
+#[test]
+fn tlvs_are_one_range() {
+    let mut data = vec![0; 31];
+    data[3] = 10;
+    data[4] = 1;
+    data[20..28].copy_from_slice(&[0, 1, 0, 4, 10, 0, 0, 1]);
+    let call = call(2, Walk::Lsa, &data);
+    let record = call.record();
+    let names: Vec<&str> = record.fields()[10..].iter().map(|f| f.name()).collect();
+    let pushed = [
+        "tlvs",
+        "tlv",
+        "type",
+        "length",
+        "router_address",
+        "unparsed",
+    ];
+    assert_eq!(names, pushed);
+    assert_eq!(record.fields()[10].range, 20..28);
+    assert_eq!(record.fields()[15].range, 28..31);
+
+    let Outcome::Accepted { strip, tail, .. } = call.run() else {
+        panic!("refused");
+    };
+    let range = [8, 24, 0, 0, 0, 20, 0, 0, 0, 31];
+    assert_eq!(strip[strip.len() - 10..], range);
+    assert_eq!((strip.len(), tail), (100 + 11 + 14 + 10, 0));
+}
+
+/// The reference opens the outer array to the body's end and moves the end
+/// later; an open entry has the final end.
+#[test]
+fn open_entries_have_the_final_end() {
+    let data = [0; 10];
+    let call = call(2, Walk::Update, &data);
+    let events = [
+        Event::Open(0),
+        Event::Close(0),
+        Event::Change(0),
+        Event::Push(1),
+    ];
+    assert_eq!(call.record().events(), events);
+    assert_eq!(call.record().fields()[0].range, 4..4);
+    let Outcome::Accepted { strip, .. } = call.run() else {
+        panic!("refused");
+    };
+    assert_eq!(strip[..10], [1, 114, 0, 0, 0, 4, 0, 0, 0, 4]);
+}
+
+/// `v2.rs` and `v3.rs` push `num_lsas` before they call; the strip starts
+/// with the outer array, and the count is the argument, whatever the data say.
+#[test]
+fn num_lsas_is_not_in_the_strip() {
+    let mut data = [0; 24];
+    data[3] = 9;
+    data[23] = 20;
+    for (count, tail) in [(0, 20), (1, 0)] {
+        let call = Call {
+            count,
+            ..call(3, Walk::Update, &data)
+        };
+        let record = call.record();
+        assert!(std::ptr::eq(record.fields()[0].descriptor, &FD_OUTER));
+        let Outcome::Accepted {
+            records,
+            tail: found,
+            ..
+        } = call.run()
+        else {
+            panic!("refused");
+        };
+        assert_eq!((records, found), (count, tail));
+    }
+}
+
+/// What is left over after the outer array is pushed with the TLV module's
+/// own descriptor, which is no row of an LSA table but has that row's name.
+#[test]
+fn unparsed_has_the_id_of_the_lsa_table() {
+    let tables = [
+        (2, v2_lsa::LSA_CHILD_FIELDS, 25),
+        (3, v3_lsa::LSA_CHILD_FIELDS, 33),
+    ];
+    for (version, table, id) in tables {
+        let data = [0; 1];
+        let call = call(version, Walk::Headers, &data);
+        let unparsed = call.record().fields()[1].descriptor;
+        assert!(!std::ptr::eq(&table[id], unparsed));
+        assert_eq!(table[id].name, unparsed.name);
+        let Outcome::Accepted { strip, .. } = call.run() else {
+            panic!("refused");
+        };
+        assert_eq!(strip[11..13], [8, id as u8]);
+    }
+}

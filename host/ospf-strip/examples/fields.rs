@@ -1,0 +1,78 @@
+//! Prints the fields of an input with their names: `fields FILE`.
+//!
+//! The file holds the OSPF version (2 or 3), the walk (0 a list of LSA
+//! headers, 1 the body of a Link State Update, 2 a single LSA), and the data.
+
+use std::env;
+use std::fs;
+use std::process::ExitCode;
+
+use ospf_strip::{Buffer, Entry, Kind, Refusal, Strip};
+
+fn main() -> ExitCode {
+    let Some(path) = env::args().nth(1) else {
+        eprintln!("usage: fields FILE");
+        return ExitCode::from(2);
+    };
+    let input = match fs::read(&path) {
+        Ok(input) => input,
+        Err(error) => {
+            eprintln!("{path}: {error}");
+            return ExitCode::FAILURE;
+        }
+    };
+    let [version, walk, data @ ..] = input.as_slice() else {
+        eprintln!("{path}: no version and walk");
+        return ExitCode::FAILURE;
+    };
+    let mut buffer = Buffer::new();
+    match run(&mut buffer, *version, *walk, data) {
+        Ok(strip) => {
+            print(*version, strip);
+            ExitCode::SUCCESS
+        }
+        Err(refusal) => {
+            println!("refused {}", refusal.number());
+            ExitCode::FAILURE
+        }
+    }
+}
+
+fn run<'a>(
+    buffer: &'a mut Buffer,
+    version: u8,
+    walk: u8,
+    data: &[u8],
+) -> Result<Strip<'a>, Refusal> {
+    match walk {
+        0 => buffer.lsa_headers(version, data, 0),
+        1 => {
+            // An update's body begins with its number of LSAs.
+            let count = data.first_chunk().map_or(0, |b| u32::from_be_bytes(*b));
+            buffer.lsu_lsas(version, data, count, 0)
+        }
+        _ => buffer.lsa(version, data, 0),
+    }
+}
+
+/// A line an entry: name, byte range, value; indented by its containers.
+fn print(version: u8, strip: Strip) {
+    let mut depth = 0;
+    for entry in strip {
+        if entry.kind() == Kind::Close {
+            depth -= 1;
+            continue;
+        }
+        println!("{:1$}{2}", "", 2 * depth, line(version, &entry));
+        if entry.kind() == Kind::Open {
+            depth += 1;
+        }
+    }
+}
+
+fn line(version: u8, entry: &Entry) -> String {
+    let name = entry.name(version).unwrap_or("?");
+    let range = entry.range().unwrap_or_default();
+    let value = entry.value().map(|v| format!(" = {v}")).unwrap_or_default();
+    format!("{name} [{}..{}]{value}", range.start, range.end)
+}

@@ -1,0 +1,148 @@
+//! The reference's names of fields, by version and id.
+//!
+//! Copied from the tables of `v2_lsa.rs` and `v3_lsa.rs`; a test compares
+//! them with what the reference pushes.
+
+/// A field's name for programs, and its label for a person.
+type Row = (&'static str, &'static str);
+
+/// The name of a field, as programs write it.
+pub fn name(version: u8, id: u8) -> Option<&'static str> {
+    row(version, id).map(|row| row.0)
+}
+
+/// The name of a field, as a person reads it.
+pub fn label(version: u8, id: u8) -> Option<&'static str> {
+    row(version, id).map(|row| row.1)
+}
+
+/// The row of document 01's id.
+fn row(version: u8, id: u8) -> Option<Row> {
+    let at = |table: &'static [Row], first: u8| table.get((id - first) as usize).copied();
+    match (version, id) {
+        (2, 0..64) => at(&V2_LSA, 0),
+        (2, 64..80) => at(&V2_LINK, 64),
+        (2, 80..96) => at(&V2_TOS, 80),
+        (2, 96) => Some(("link", "Link")),
+        (2, 97) => Some(("tos_metric", "TOS Metric")),
+        (3, 0..64) => at(&V3_LSA, 0),
+        (3, 64..80) => at(&V3_LINK, 64),
+        (3, 80..96) => at(&V3_PREFIX, 80),
+        (3, 96) => Some(("link", "Interface")),
+        (3, 97) => Some(("prefix_entry", "Prefix")),
+        (2 | 3, 98) => Some(("attached_router", "Attached Router")),
+        (2 | 3, 112) => Some(("lsa_header", "LSA Header")),
+        (2 | 3, 113) => Some(("lsa", "LSA")),
+        // The reference takes the outer array from its callers, which call it
+        // by this name in an update and `lsa_headers` in a header list.
+        (2 | 3, 114) => Some(("lsas", "LSAs")),
+        _ => None,
+    }
+}
+
+/// LSA fields of version 2.
+static V2_LSA: [Row; 26] = [
+    ("ls_age", "LS Age"),
+    ("options", "Options"),
+    ("ls_type", "LS Type"),
+    ("link_state_id", "Link State ID"),
+    ("advertising_router", "Advertising Router"),
+    ("ls_sequence_number", "LS Sequence Number"),
+    ("ls_checksum", "LS Checksum"),
+    ("length", "Length"),
+    ("opaque_type", "Opaque Type"),
+    ("opaque_id", "Opaque ID"),
+    ("flags", "Flags"),
+    ("flag_nt", "Nt-bit (NSSA Translator)"),
+    ("flag_v", "V-bit (Virtual Link Endpoint)"),
+    ("flag_e", "E-bit"),
+    ("flag_b", "B-bit (Area Border Router)"),
+    ("num_links", "Number of Links"),
+    ("links", "Links"),
+    ("network_mask", "Network Mask"),
+    ("attached_routers", "Attached Routers"),
+    ("metric", "Metric"),
+    ("tos_metrics", "TOS Metrics"),
+    ("forwarding_address", "Forwarding Address"),
+    ("external_route_tag", "External Route Tag"),
+    ("body", "LSA Body"),
+    ("tlvs", "TLVs"),
+    ("unparsed", "Unparsed Data"),
+];
+
+/// Router link fields of version 2.
+static V2_LINK: [Row; 6] = [
+    ("link_id", "Link ID"),
+    ("link_data", "Link Data"),
+    ("link_type", "Link Type"),
+    ("num_tos", "Number of TOS"),
+    ("metric", "Metric"),
+    ("tos_metrics", "TOS Metrics"),
+];
+
+/// TOS entry fields of version 2.
+static V2_TOS: [Row; 5] = [
+    ("flag_e", "E-bit"),
+    ("tos", "TOS"),
+    ("metric", "Metric"),
+    ("forwarding_address", "Forwarding Address"),
+    ("external_route_tag", "External Route Tag"),
+];
+
+/// LSA fields of version 3.
+static V3_LSA: [Row; 34] = [
+    ("ls_age", "LS Age"),
+    ("ls_type", "LS Type"),
+    ("link_state_id", "Link State ID"),
+    ("advertising_router", "Advertising Router"),
+    ("ls_sequence_number", "LS Sequence Number"),
+    ("ls_checksum", "LS Checksum"),
+    ("length", "Length"),
+    ("flags", "Flags"),
+    ("flag_nt", "Nt-bit (NSSA Translator)"),
+    ("flag_v", "V-bit (Virtual Link Endpoint)"),
+    ("flag_e", "E-bit"),
+    ("flag_b", "B-bit (Area Border Router)"),
+    ("flag_f", "F-bit (Forwarding Address)"),
+    ("flag_t", "T-bit (External Route Tag)"),
+    ("options", "Options"),
+    ("links", "Interfaces"),
+    ("attached_routers", "Attached Routers"),
+    ("metric", "Metric"),
+    ("prefix_length", "Prefix Length"),
+    ("prefix_options", "Prefix Options"),
+    ("prefix", "Address Prefix"),
+    ("destination_router_id", "Destination Router ID"),
+    ("referenced_ls_type", "Referenced LS Type"),
+    ("forwarding_address", "Forwarding Address"),
+    ("external_route_tag", "External Route Tag"),
+    ("referenced_link_state_id", "Referenced Link State ID"),
+    ("router_priority", "Router Priority"),
+    ("link_local_address", "Link-local Interface Address"),
+    ("num_prefixes", "Number of Prefixes"),
+    ("prefixes", "Prefixes"),
+    (
+        "referenced_advertising_router",
+        "Referenced Advertising Router",
+    ),
+    ("body", "LSA Body"),
+    ("tlvs", "TLVs"),
+    ("unparsed", "Unparsed Data"),
+];
+
+/// Router link fields of version 3.
+static V3_LINK: [Row; 5] = [
+    ("link_type", "Type"),
+    ("metric", "Metric"),
+    ("interface_id", "Interface ID"),
+    ("neighbor_interface_id", "Neighbor Interface ID"),
+    ("neighbor_router_id", "Neighbor Router ID"),
+];
+
+/// Prefix entry fields of version 3.
+static V3_PREFIX: [Row; 4] = [
+    ("prefix_length", "Prefix Length"),
+    ("prefix_options", "Prefix Options"),
+    ("metric", "Metric"),
+    ("prefix", "Address Prefix"),
+];

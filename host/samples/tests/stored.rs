@@ -1,0 +1,107 @@
+//! The stored files are what the command makes, and can be read back.
+
+use std::collections::BTreeSet;
+use std::fs;
+use std::path::Path;
+
+use listing::hex;
+use oracle::{Answer, Walk};
+use samples::{Room, Sample, answered, captures_bin, oracle_bin, read, write};
+
+fn stored(name: &str) -> Vec<u8> {
+    let directory = Path::new(env!("CARGO_MANIFEST_DIR")).join("../../samples");
+    fs::read(directory.join(name)).expect("the stored file")
+}
+
+/// Not compared by `assert_eq`, which would print megabytes.
+fn check(name: &str, made: &[u8]) {
+    let stored = stored(name);
+    assert!(stored == made, "{name} is not what the command makes");
+    assert!(stored.len() < 1_500_000, "{}", stored.len());
+    let samples = read(&stored).expect("samples");
+    assert!(write(samples) == stored, "{name} read and written again");
+}
+
+#[test]
+fn oracle_bin_is_made_again() {
+    check("oracle.bin", &oracle_bin());
+}
+
+#[test]
+fn captures_bin_is_made_again() {
+    check("captures.bin", &captures_bin().expect("the captures"));
+}
+
+const DATA: &str = "00 01 02 01 0A 00 00 01 0A 00 00 01 80 00 00 01 12 34 00 18 FF";
+
+/// The worked listing of document 01 at offset 24, as a sample.
+fn worked() -> Sample {
+    let strip = listing::strip(
+        "open 114 24 44\n open 112 24 44\n u16 0 24 26 1\n u8 1 26 27 2\n u8 2 27 28 1\n \
+         ip4 3 28 32 10.0.0.1\n ip4 4 32 36 10.0.0.1\n u32 5 36 40 2147483649\n \
+         u16 6 40 42 4660\n u16 7 42 44 24\n close\n close\n bytes 25 44 45",
+    );
+    Sample {
+        version: 2,
+        walk: Walk::Headers,
+        count: 0,
+        offset: 24,
+        room: 140,
+        data: hex(DATA),
+        answer: Answer {
+            number: 0,
+            length: 132,
+            records: 1,
+            tail: 1,
+        },
+        strip,
+    }
+}
+
+/// Its bytes in a file, by hand.
+#[test]
+fn format_by_hand() {
+    let call = hex(&format!(
+        "02 00 00000000 0000000000000018 0000008C 00000015 {DATA}"
+    ));
+    let answer = hex("00 00000084 00000001 00000001");
+    let bytes = [call, answer, worked().strip].concat();
+    assert_eq!(write([worked()]), bytes);
+    assert_eq!(read(&bytes), Some(vec![worked()]));
+    assert_eq!(read(&bytes[..bytes.len() - 1]), None);
+}
+
+/// The oracle gives that sample's answer.
+#[test]
+fn answer_by_hand() {
+    let input = inputs::Input {
+        class: inputs::Class::Structured,
+        version: 2,
+        walk: Walk::Headers,
+        data: hex(DATA),
+        count: 0,
+        offset: 24,
+    };
+    assert_eq!(answered(&input, Room::Larger(8)), worked());
+}
+
+/// Every answer a walk can give is there, for each walk that can give it, and
+/// most inputs are short.
+#[test]
+fn every_answer_is_there() {
+    let samples = read(&stored("oracle.bin")).expect("samples");
+    let found: BTreeSet<(u8, u8)> = samples
+        .iter()
+        .map(|s| (s.walk as u8, s.answer.number))
+        .collect();
+    for walk in 0..3 {
+        for number in [0, 1, 3, 5] {
+            assert!(found.contains(&(walk, number)), "walk {walk}: {number}");
+        }
+    }
+    for (walk, number) in [(2, 2), (1, 4), (2, 4)] {
+        assert!(found.contains(&(walk, number)), "walk {walk}: {number}");
+    }
+    let long = samples.iter().filter(|s| s.data.len() > 2_048).count();
+    assert!((1..10).contains(&long), "{long}");
+}
