@@ -1,5 +1,5 @@
 -- Laws of what is written of a body.
-use Prim.Native.Nat.{ℕ, _+_, _-_}
+use Prim.Native.Nat.{ℕ, _+_, _-_, _≤_}
 use native.Mathlib.Nat.{add-zero}
 use native.Mathlib.Omega.{arith}
 use mathlib.Core.Path.{_≡_, refl, sym, ap, _∙_}
@@ -11,6 +11,7 @@ use Rattle.format.specs.Body as body
 use Rattle.format.specs.Body.{leftover, bodyEntries, bodyTail}
 use Rattle.format.specs.Body.Body.{decoded, raw}
 use Rattle.format.proofs.Wrote.{then, encode-append}
+use Rattle.format.proofs.Bounds.{leftover-bound}
 use Rattle.body.specs.Answers.{Pushed, pushedOf, measuredOf, bytesOf}
 use Rattle.body.specs.declared.Body.{Body}
 use Rattle.body.specs.declared.Body.the-variants.{Decoded, Raw}
@@ -27,6 +28,10 @@ pushed-raw l at = record { answer = refl; contents = refl }
 abbrev pub restOf : (rawId unparsedId : ℕ) → body.Body → List ℕ → ℕ → List Entry
 restOf r u (decoded es n) b o = leftover u b o n
 restOf r u raw b o = leftover r b o 0
+
+pub rest-bound : (r u : ℕ) (x : body.Body) (b : List ℕ) (o : ℕ) → length (encode (restOf r u x b o)) ≤ 10
+rest-bound r u (decoded es n) b o = leftover-bound u b o n
+rest-bound r u raw b o = leftover-bound r b o 0
 
 -- The bytes of an LSA: its header's, its body's own, and those of what is left.
 pub encode-lsa : (hs : List Entry) (r u : ℕ) (x : body.Body) (b : List ℕ) (o : ℕ)

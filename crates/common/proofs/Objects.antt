@@ -2,18 +2,16 @@
 use Prim.Native.Nat.{ℕ, _+_, _-_, _*_, _/_, _≤_}
 use native.Mathlib.Omega.{arith}
 use mathlib.Core.Path.{_≡_, refl, ap, _∙_}
-use mathlib.Core.Bool.{Bool, true, false, cond}
 use mathlib.Core.List.{List, flatMap}
 use mathlib.Core.Option.{Option, none, some}
-use lib.ListN.{length, drop, getD, length-append, length-drop}
+use lib.ListN.{length, drop, length-append, length-drop}
 use lib.Seq.{length-take-le}
-use lib.Dec.{ltb}
 use Rattle.format.specs.Bytes.{part}
 use Rattle.format.specs.Strip.{Entry, encode, code}
 use Rattle.format.specs.Strip.Entry.{opens, closes}
 use Rattle.format.specs.Wrote.{Wrote}
 use Rattle.format.specs.Cut.{Span, cut, after, fixedRule}
-use Rattle.format.specs.Header.{headerSize, headerEntries2, isOpaque}
+use Rattle.format.specs.Header.{headerSize}
 use Rattle.format.specs.Body.{listing, leftover, whole}
 use Rattle.format.specs.Walks.{headerEntries, headerObject, lsaEntries, lsaObject, headers, outer, unparsedId}
 use Rattle.format.proofs.Wrote.{then, encode-append}
@@ -26,15 +24,6 @@ use Rattle.common.specs.declared.update.Fit.the-variants.{Bytes, Nothing
 -- A part that lies in the data has its length.
 pub part-length : (d : List ℕ) (p n : ℕ) → p + n ≤ length d → length (part d p n) ≡ n
 part-length d p n h = length-take-le n (drop p d) (rw (length-drop p d) (omega arith))
-
--- The entries of a version 2 header take at most 125 bytes.
-pub header2-bound : (b : List ℕ) (o : ℕ) → length (encode (headerEntries2 b o)) ≤ 125
-unfolding headerEntries2 encode code
-header2-bound b o = go (isOpaque (getD b 3 0)) refl
-  where
-    go : (t : Bool) → isOpaque (getD b 3 0) ≡ t → length (encode (headerEntries2 b o)) ≤ 125
-    go true e = rw e (omega arith)
-    go false e = rw e (omega arith)
 
 -- A header object takes eleven bytes more than its entries.
 pub length-object : (v : ℕ) (d : List ℕ) (o p : ℕ)
@@ -66,15 +55,6 @@ headers-cut d count e = let z : (length d - 0) / 20 ≡ count = omega arith in a
 
 pub headers-after : (d : List ℕ) (count : ℕ) → count ≡ length d / 20 → after 0 (headers d) ≡ count * 20
 headers-after d count e = whole-after 20 d 0 (omega arith) ∙ omega arith
-
--- What is left takes ten bytes at most.
-pub unparsed-bound : (d : List ℕ) (i o p : ℕ) → length (encode (leftover i d o p)) ≤ 10
-unfolding leftover encode code
-unparsed-bound d i o p = go (ltb p (length d)) refl
-  where
-    go : (t : Bool) → ltb p (length d) ≡ t → length (encode (leftover i d o p)) ≤ 10
-    go true e = rw e (omega arith)
-    go false e = rw e (omega arith)
 
 -- An LSA's object takes eleven bytes more than its entries.
 pub length-lsa-object : (v : ℕ) (d : List ℕ) (o p n : ℕ)

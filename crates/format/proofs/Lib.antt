@@ -6,6 +6,7 @@ pub mod Unique
 pub mod Rules
 pub mod Loop
 pub mod Lists
+pub mod Bounds
 pub mod FixedLoop
 pub mod Prefix
 pub mod Newness

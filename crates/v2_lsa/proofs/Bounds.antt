@@ -10,17 +10,18 @@ use lib.Dec.{ltb, eqb}
 use borrow.Author.Tests.{ltb-false}
 use Rattle.format.specs.Bytes.{be16At}
 use Rattle.format.specs.Strip.{code, encode, container}
-use Rattle.format.specs.Header.{headerSize, headerEntries2, isOpaque}
+use Rattle.format.specs.Header.{headerSize, headerEntries2}
 use Rattle.format.specs.Cut.{cut, linkRule}
 use Rattle.format.specs.Body as body
-use Rattle.format.specs.Body.{whole, attachedRouter, leftover}
-use Rattle.format.specs.Body.Body.{decoded, raw}
+use Rattle.format.specs.Body.{whole, attachedRouter}
+use Rattle.format.specs.Body.Body.{raw}
 use Rattle.format.specs.V2.{link, links, linkTos, linkTosSpans, summaryTos, externalTos, opaqueHasTlvs, routerLsa2, networkLsa2, summaryLsa, externalLsa2, opaqueLsa, body2, bodyOf2, lsaEntries2}
 use Rattle.format.proofs.Unique.{span, cut-none, cut-some}
 use Rattle.format.proofs.Loop.{spread, spread-cons}
 use Rattle.format.proofs.Lists.{fixed-cut, whole-count, length-whole, length-listing}
 use Rattle.body.specs.Answers.{bytesOf}
-use Rattle.body.proofs.Laws.{restOf, length-lsa}
+use Rattle.format.proofs.Bounds.{header-bound}
+use Rattle.body.proofs.Laws.{rest-bound, length-lsa}
 use Rattle.v2_lsa.proofs.Laws.{link-inside, length-link, length-most}
 
 -- A link has nine bytes at most for each of its own.
@@ -96,26 +97,6 @@ module _ (b : List ℕ) (o : ℕ) where
       (choice b (eqb t 9) _ _ (opaque-bound u)
       (choice b (eqb t 10) _ _ (opaque-bound u)
       (choice b (eqb t 11) _ raw (opaque-bound u) (omega arith)))))))))
-
-pub header-bound : (d : List ℕ) (o : ℕ) → length (encode (headerEntries2 d o)) ≤ 125
-unfolding headerEntries2 encode code
-header-bound d o = go (isOpaque (getD d 3 0)) refl
-  where
-    go : (s : Bool) → isOpaque (getD d 3 0) ≡ s → length (encode (headerEntries2 d o)) ≤ 125
-    go true e = rw e (omega arith)
-    go false e = rw e (omega arith)
-
-pub leftover-bound : (i : ℕ) (b : List ℕ) (o p : ℕ) → length (encode (leftover i b o p)) ≤ 10
-unfolding leftover encode code
-leftover-bound i b o p = go (ltb p (length b)) refl
-  where
-    go : (s : Bool) → ltb p (length b) ≡ s → length (encode (leftover i b o p)) ≤ 10
-    go true e = rw e (omega arith)
-    go false e = rw e (omega arith)
-
-rest-bound : (r u : ℕ) (x : body.Body) (b : List ℕ) (o : ℕ) → length (encode (restOf r u x b o)) ≤ 10
-rest-bound r u (decoded es n) b o = leftover-bound u b o n
-rest-bound r u raw b o = leftover-bound r b o 0
 
 pub lsa-bound : (d : List ℕ) (o : ℕ) → headerSize ≤ length d → length (encode (lsaEntries2 d o)) ≤ 9 * length d
 unfolding lsaEntries2

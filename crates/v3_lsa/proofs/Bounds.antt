@@ -8,9 +8,9 @@ use mathlib.Core.Path.{_≡_, refl, ap, _∙_}
 use lib.Dec.{ltb, eqb}
 use lib.ListN.{length, length-append, length-drop, drop, getD}
 use borrow.Author.Tests.{ltb-false}
-use Rattle.format.specs.Body.{whole, leftover, attachedRouter}
+use Rattle.format.specs.Body.{whole, attachedRouter}
 use Rattle.format.specs.Body as body
-use Rattle.format.specs.Body.Body.{decoded, raw}
+use Rattle.format.specs.Body.Body.{raw}
 use Rattle.format.specs.Bytes.{be16At, be32At}
 use Rattle.format.specs.Cut.{cut, prefixRule}
 use Rattle.format.specs.Header.{headerSize, headerEntries3}
@@ -22,7 +22,7 @@ use Rattle.format.proofs.Loop.{spread}
 use Rattle.format.proofs.Rules.{inside}
 use Rattle.format.proofs.Unique.{cut-none, cut-some}
 use Rattle.format.proofs.Wrote.{encode-append}
-use Rattle.body.proofs.Laws.{length-lsa, restOf}
+use Rattle.body.proofs.Laws.{length-lsa, rest-bound}
 use Rattle.body.specs.Answers.{bytesOf}
 use Rattle.v3_lsa.specs.Fits.{fixedPrefixFits}
 use Rattle.v3_lsa.proofs.Bodies.{inter-area-prefix-raw, inter-area-prefix-decoded, external-raw, external-fits}
@@ -158,19 +158,6 @@ module _ (b : List ℕ) (o : ℕ) where
   pub body-bound : (f : ℕ) → length (bytesOf (body3 f b o)) ≤ 10 + length b * 18
   body-bound f = within f .bound
 
--- What is left of a body is one entry at most.
-pub left-bound : (i : ℕ) (b : List ℕ) (o p : ℕ) → length (encode (leftover i b o p)) ≤ 10
-unfolding leftover encode code
-left-bound i b o p = go (ltb p (length b))
-  where
-    go : (s : Bool) → length (encode (cond s (bytes i (o + p) (o + length b) ∷ []) [])) ≤ 10
-    go true = omega arith
-    go false = omega arith
-
-rest-bound : (x : body.Body) (b : List ℕ) (o : ℕ) → length (encode (restOf 31 33 x b o)) ≤ 10
-rest-bound (decoded es n) b o = left-bound 33 b o n
-rest-bound raw b o = left-bound 31 b o 0
-
 -- The whole LSA, whose header takes 90 bytes.
 pub lsa-bound : (d : List ℕ) (o : ℕ) → headerSize ≤ length d → length (encode (lsaEntries3 d o)) ≤ length d * 18
 unfolding lsaEntries3 headerEntries3 encode code
@@ -179,5 +166,5 @@ lsa-bound d o h =
     let l = length-lsa (headerEntries3 d o) 31 33 (bodyOf3 d o) b (o + headerSize) in
     let k = body-bound b (o + headerSize) (functionCode d) in
     let m = length-drop headerSize d in
-    let r = rest-bound (bodyOf3 d o) b (o + headerSize) in
+    let r = rest-bound 31 33 (bodyOf3 d o) b (o + headerSize) in
     omega arith

@@ -1,5 +1,6 @@
 use Rattle.common.specs.declared.Answer.{Answer}
-use Rattle.common.proofs.Objects.{headers-after, headers-cut, length-outer, unparsed-bound}
+use Rattle.common.proofs.Objects.{headers-after, headers-cut, length-outer}
+use Rattle.format.proofs.Bounds.{leftover-bound}
 use Rattle.format.proofs.Lists.{whole-count}
 use Rattle.format.proofs.Refusals.{limits, walk-refused, walk-full, walk-done}
 use Rattle.format.specs.Walks.{headersOf, refusal, outer, headerObject, headers, unparsedId}
@@ -78,7 +79,7 @@ add-length-2 c =
     let e = c .before .before .before .refusal-of .ensures in
     let z : refusal v d o 0 ≡ 0 = sym e ∙ c .before .before .if1 .left in
     let m = limits v d o 0 z in
-    omega (arith, c .measure-unparsed .ensures 0 0, unparsed-bound d 0 0 (length d / 20 * 20))
+    omega (arith, c .measure-unparsed .ensures 0 0, leftover-bound 0 d 0 (length d / 20 * 20))
 
 no-room-requires : tie.Need-no-room-requires
 no-room-requires c κs = search needs
@@ -103,7 +104,7 @@ returns-2 c =
     let size : c .before .before .before .measure-headers .result + 11 + c .before .before .measure-unparsed .result ≡ length (encode (outer v (headerObject v d o) d o 0 (headers d))) = omega (arith, c .before .before .before .measure-headers .ensures .0 o, c .before .before .measure-unparsed .ensures (unparsedId v) o) in
     let w = walk-full n (outer v (headerObject v d o) d o 0 (headers d)) (length (headers d)) (length d - after 0 (headers d)) before z (omega arith) in
     let f = ap (λ (a : Answer). a .length) (c .no-room .ensures) in
-    (rw (w .0, ← size) (c .no-room .ensures), (sym (w .1), omega (arith, c .before .before .measure-unparsed .ensures 0 0, unparsed-bound d 0 0 (length d / 20 * 20))))
+    (rw (w .0, ← size) (c .no-room .ensures), (sym (w .1), omega (arith, c .before .before .measure-unparsed .ensures 0 0, leftover-bound 0 d 0 (length d / 20 * 20))))
 
 cast-write-headers : tie.Need-cast-write-headers
 cast-write-headers c =
@@ -164,7 +165,7 @@ returns-3 c =
     let w = walk-done n (outer v (headerObject v d o) d o 0 (headers d)) (length (headers d)) (length d - after 0 (headers d)) before z (omega arith) in
     let r = whole-count 20 d 0 (omega arith) in
     let rc : length (headers d) ≡ length d / 20 = r ∙ omega arith in
-    (rw (w .0, ← size, rc, q) refl, (c .before .before .write-headers .ensures .contents ∙ sym (w .1), omega (arith, c .before .before .before .before .before .measure-unparsed .ensures 0 0, unparsed-bound d 0 0 (length d / 20 * 20))))
+    (rw (w .0, ← size, rc, q) refl, (c .before .before .write-headers .ensures .contents ∙ sym (w .1), omega (arith, c .before .before .before .before .before .measure-unparsed .ensures 0 0, leftover-bound 0 d 0 (length d / 20 * 20))))
 
 pub push-lsa-headers-spec : {M : Type 1} → statement M
 push-lsa-headers-spec =

@@ -1,5 +1,6 @@
 use Rattle.common.specs.declared.Answer.{Answer}
-use Rattle.common.proofs.Objects.{length-outer, unparsed-bound}
+use Rattle.common.proofs.Objects.{length-outer}
+use Rattle.format.proofs.Bounds.{leftover-bound}
 use Rattle.format.proofs.Refusals.{limits, walk-refused, walk-full, walk-done}
 use Rattle.format.specs.Walks.{updateOf, refusal, outer, lsaObject, lsas, unparsedId}
 use Rattle.format.specs.Body.{leftover}
@@ -77,7 +78,7 @@ add-length-2 c =
     let e = c .before .before .before .before .refusal-of .ensures in
     let z : refusal v d o 4 ≡ 0 = sym e ∙ c .before .before .before .if1 .left in
     let m = limits v d o 4 z in
-    omega (arith, c .measure-unparsed .ensures 0 0, unparsed-bound d 0 0 (c .before .before .measure-lsas .result .end))
+    omega (arith, c .measure-unparsed .ensures 0 0, leftover-bound 0 d 0 (c .before .before .measure-lsas .result .end))
 
 no-room-requires : tie.Need-no-room-requires
 no-room-requires c κs = search needs
@@ -101,7 +102,7 @@ returns-2 c =
     let size : c .before .before .before .before .measure-lsas .result .length + 11 + c .before .before .measure-unparsed .result ≡ length (encode (outer v (lsaObject v d o) d o 4 (lsas d k))) = omega (arith, c .before .before .before .before .measure-lsas .ensures .0 o, c .before .before .measure-unparsed .ensures (unparsedId v) o) in
     let w = walk-full n (outer v (lsaObject v d o) d o 4 (lsas d k)) (length (lsas d k)) (length d - after 4 (lsas d k)) before z (omega arith) in
     let f = ap (λ (a : Answer). a .length) (c .no-room .ensures) in
-    (rw (w .0, ← size) (c .no-room .ensures), (sym (w .1), omega (arith, c .before .before .measure-unparsed .ensures 0 0, unparsed-bound d 0 0 (c .before .before .before .before .measure-lsas .result .end))))
+    (rw (w .0, ← size) (c .no-room .ensures), (sym (w .1), omega (arith, c .before .before .measure-unparsed .ensures 0 0, leftover-bound 0 d 0 (c .before .before .before .before .measure-lsas .result .end))))
 
 cast-write-lsas : tie.Need-cast-write-lsas
 cast-write-lsas c =
@@ -159,7 +160,7 @@ returns-3 c =
     let t = ap (λ (x : ℕ). length (encode (leftover (unparsedId v) d o x))) q in
     let size : c .before .before .before .before .before .before .before .measure-lsas .result .length + 11 + c .before .before .before .before .before .measure-unparsed .result ≡ length (encode (outer v (lsaObject v d o) d o 4 (lsas d k))) = omega (arith, c .before .before .before .before .before .before .before .measure-lsas .ensures .0 o, c .before .before .before .before .before .measure-unparsed .ensures (unparsedId v) o) in
     let w = walk-done n (outer v (lsaObject v d o) d o 4 (lsas d k)) (length (lsas d k)) (length d - after 4 (lsas d k)) before z (omega arith) in
-    (rw (w .0, ← size, ← c .before .before .before .before .before .before .before .measure-lsas .ensures .1 .0, ← q) refl, (c .before .before .write-lsas .ensures .contents ∙ sym (w .1), omega (arith, c .before .before .before .before .before .measure-unparsed .ensures 0 0, unparsed-bound d 0 0 (c .before .before .before .before .before .before .before .measure-lsas .result .end))))
+    (rw (w .0, ← size, ← c .before .before .before .before .before .before .before .measure-lsas .ensures .1 .0, ← q) refl, (c .before .before .write-lsas .ensures .contents ∙ sym (w .1), omega (arith, c .before .before .before .before .before .measure-unparsed .ensures 0 0, leftover-bound 0 d 0 (c .before .before .before .before .before .before .before .measure-lsas .result .end))))
 
 pub push-lsu-lsas-spec : {M : Type 1} → statement M
 push-lsu-lsas-spec =

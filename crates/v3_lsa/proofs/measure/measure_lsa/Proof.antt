@@ -10,7 +10,8 @@ use Rattle.format.specs.V3.{functionCode, bodyOf3, lsaEntries3, lsaTail3}
 use Rattle.body.proofs.Laws.{length-lsa, measured-is-decoded, measured-is-raw}
 use Rattle.body.specs.Answers.{measuredOf}
 use Rattle.v3_lsa.proofs.Bodies.{the-rest}
-use Rattle.v3_lsa.proofs.Bounds.{body-bound, left-bound}
+use Rattle.v3_lsa.proofs.Bounds.{body-bound}
+use Rattle.format.proofs.Bounds.{leftover-bound}
 use Rattle.v3_lsa.proofs.measure.measure_lsa.Statement.{statement}
 use Rattle.v3_lsa.proofs.measure.measure_lsa.Tie as tie
 
@@ -53,7 +54,7 @@ add-t13 c =
     let e = c .before .before .before .before .before .before .before .measure-lsa-header-fields .ensures d 0 in
     let m = length-drop headerSize d in
     let u = c .measure-unparsed .ensures 33 20 in
-    let v = left-bound 33 (take (length d - 20) (drop 20 d)) 20 (g .0 .1 .0) in
+    let v = leftover-bound 33 (take (length d - 20) (drop 20 d)) 20 (g .0 .1 .0) in
     omega arith
 
 add-t14 : tie.Need-add-t14
@@ -67,7 +68,7 @@ add-t14 c =
     let e = c .before .before .before .before .before .before .before .measure-lsa-header-fields .ensures d 0 in
     let m = length-drop headerSize d in
     let u = c .measure-unparsed .ensures 33 20 in
-    let v = left-bound 33 (take (length d - 20) (drop 20 d)) 20 (g .0 .1 .0) in
+    let v = leftover-bound 33 (take (length d - 20) (drop 20 d)) 20 (g .0 .1 .0) in
     omega arith
 
 bytes-from-requires : tie.Need-bytes-from-requires
@@ -85,7 +86,7 @@ add-t17 c =
     let d = c .before .before .before .before .before .before .before .before .args .lsa .now in
     let e = c .before .before .before .before .before .before .measure-lsa-header-fields .ensures d 0 in
     let u = c .measure-unparsed2 .ensures 31 20 in
-    let v = left-bound 31 (take (length d - 20) (drop 20 d)) 20 0 in
+    let v = leftover-bound 31 (take (length d - 20) (drop 20 d)) 20 0 in
     omega arith
 
 returns : tie.Need-returns
