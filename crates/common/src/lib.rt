@@ -72,7 +72,7 @@ fn is_known(version: u8) -> bool
 }
 
 // The answer to a refused call.
-fn refused(number: u8) -> Answer
+pub fn refused(number: u8) -> Answer
     ensures { λ r. ⌜ r ≡ answered (answer number 0 0 0) ⌝ }
 {
     Answer {

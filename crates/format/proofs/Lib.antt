@@ -16,3 +16,5 @@ pub mod NestedLsa
 pub mod Shown
 pub mod Walks
 pub mod Refusals
+pub mod Part
+pub mod Program

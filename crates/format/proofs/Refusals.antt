@@ -90,7 +90,7 @@ table v d o least room needed (holds k) (fails n2) (fails n3) (fails n4) (fails 
 }
 
 -- The number that is answered is that of the first test that fails.
-number-is : (v : ℕ) (d : List ℕ) (o least : ℕ) (es : List Entry) (r t room : ℕ)
+pub number-is : (v : ℕ) (d : List ℕ) (o least : ℕ) (es : List Entry) (r t room : ℕ)
     → answerOf (unless (refusal v d o least) (accepted es r t)) room .number
     ≡ cond (isKnown v) (cond (ltb maxData (length d)) 2 (cond (ltb maxOffset o) 3 (cond (ltb (length d) least) 4 (cond (ltb room (length (encode es))) 5 0)))) 1
 unfolding unless answerOf

@@ -10,3 +10,5 @@ pub mod V2
 pub mod V3
 pub mod Walks
 pub mod Shown
+pub mod Part
+pub mod Print

@@ -5,6 +5,7 @@ ghost use lib.ListN.{length};
 ghost use Rattle.format.specs.Header.{headerSize, headerEntries2, identityEntries2, opaqueEntries, isOpaque};
 ghost use Rattle.format.specs.Strip.{encode};
 ghost use Rattle.format.specs.Wrote.{Wrote};
+use crate::LsaHeader;
 use crate::push_instance_fields;
 use strip::push::push_ipv4_at;
 use strip::push::push_u8_at;
@@ -55,6 +56,17 @@ pub fn push_lsa_header_fields(strip: &mut [u8], at: usize, body: &[u8], o: u32) 
     } else {
         b
     }
+}
+
+// The same of an LSA. The header's bytes are lent by themselves: a slice that is handed on as it came is copied by every
+// call.
+pub fn push_lsa_header(strip: &mut [u8], at: usize, lsa: &[u8], o: u32) -> usize
+    requires { ⌜ at + length (encode (headerEntries2 (now lsa) o)) ≤ length (now strip) ⌝ }
+    requires { ⌜ headerSize ≤ length (now lsa) ⌝ }
+    requires { ⌜ o + length (now lsa) < 4294967296 ⌝ }
+    ensures { λ r. ⌜ Wrote (now (strip .entry)) at (encode (headerEntries2 (now (lsa .entry)) o)) (now (strip .exit)) r ⌝ }
+{
+    push_lsa_header_fields(strip, at, &lsa[..LsaHeader::SIZE], o)
 }
 
 fn push_identity_fields(strip: &mut [u8], at: usize, body: &[u8], o: u32) -> usize

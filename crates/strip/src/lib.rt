@@ -2,3 +2,4 @@
 pub mod push;
 pub mod put;
 pub mod step;
+mod swap;

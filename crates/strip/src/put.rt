@@ -5,6 +5,12 @@ ghost use lib.ListN.{length};
 ghost use Rattle.format.specs.Bytes.{be16, be32, be64};
 ghost use Rattle.format.specs.Strip.{head};
 ghost use Rattle.format.specs.Wrote.{Wrote};
+use crate::swap::put_le16;
+use crate::swap::put_le32;
+use crate::swap::put_le64;
+use crate::swap::swap_u16;
+use crate::swap::swap_u32;
+use crate::swap::swap_u64;
 
 pub fn put_u8(strip: &mut [u8], at: usize, x: u8) -> usize
     requires { ⌜ at < length (now strip) ⌝ }
@@ -18,16 +24,14 @@ pub fn put_u16(strip: &mut [u8], at: usize, x: u16) -> usize
     requires { ⌜ at + 2 ≤ length (now strip) ⌝ }
     ensures { λ r. ⌜ Wrote (now (strip .entry)) at (be16 x) (now (strip .exit)) r ⌝ }
 {
-    let a = put_u8(strip, at, (x / 256) as u8);
-    put_u8(strip, a, (x % 256) as u8)
+    put_le16(strip, at, swap_u16(x))
 }
 
 pub fn put_u32(strip: &mut [u8], at: usize, x: u32) -> usize
     requires { ⌜ at + 4 ≤ length (now strip) ⌝ }
     ensures { λ r. ⌜ Wrote (now (strip .entry)) at (be32 x) (now (strip .exit)) r ⌝ }
 {
-    let a = put_u16(strip, at, (x / 65536) as u16);
-    put_u16(strip, a, (x % 65536) as u16)
+    put_le32(strip, at, swap_u32(x))
 }
 
 pub fn put_u64(strip: &mut [u8], at: usize, x: u64) -> usize
@@ -38,13 +42,12 @@ pub fn put_u64(strip: &mut [u8], at: usize, x: u64) -> usize
     put_u32(strip, a, (x % 4294967296) as u32)
 }
 
-// An entry up to its value.
+// An entry up to its value. Start and end are written as one number.
 pub fn put_head(strip: &mut [u8], at: usize, kind: u8, id: u8, start: u32, end: u32) -> usize
     requires { ⌜ at + 10 ≤ length (now strip) ⌝ }
     ensures { λ r. ⌜ Wrote (now (strip .entry)) at (kind ∷ head id start end) (now (strip .exit)) r ⌝ }
 {
     let a = put_u8(strip, at, kind);
     let b = put_u8(strip, a, id);
-    let c = put_u32(strip, b, start);
-    put_u32(strip, c, end)
+    put_le64(strip, b, swap_u64(start as u64 * 4294967296 + end as u64))
 }

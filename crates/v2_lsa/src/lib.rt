@@ -19,7 +19,7 @@ use body::Listed;
 use body::push_attached_routers;
 use body::push_unparsed;
 use header::LsaHeader;
-use header::v2::push_lsa_header_fields;
+use header::v2::push_lsa_header;
 use strip::push::begin_container;
 use strip::push::end_container;
 use strip::push::push_bit_at;
@@ -113,7 +113,7 @@ pub fn push_lsa(strip: &mut [u8], at: usize, lsa: &[u8], o: u32) -> usize
     requires { ⌜ o + length (now lsa) < 4294967296 ⌝ }
     ensures { λ r. ⌜ Wrote (now (strip .entry)) at (encode (lsaEntries2 (now (lsa .entry)) o)) (now (strip .exit)) r ⌝ }
 {
-    let a = push_lsa_header_fields(strip, at, lsa, o);
+    let a = push_lsa_header(strip, at, lsa, o);
     let body = &lsa[LsaHeader::SIZE..];
     let start = o + LsaHeader::SIZE as u32;
     let pushed = push_body(strip, a, lsa[3], lsa[4], body, start);

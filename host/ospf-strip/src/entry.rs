@@ -83,7 +83,8 @@ impl Entry {
     }
 
     /// The part of `packet` that the entry stands for; a close stands for
-    /// none. `packet` is the data that was walked, at this `offset`.
+    /// none. `packet` is the data that was walked, or a packet that holds it,
+    /// and its first byte is at `offset`.
     pub fn part<'p>(&self, packet: &'p [u8], offset: u64) -> Result<&'p [u8], Refusal> {
         let range = self.range().ok_or(Refusal::Outside)?;
         let place = |at: u32| usize::try_from(u64::from(at).checked_sub(offset)?).ok();
@@ -161,5 +162,52 @@ fn kind_of(byte: u8) -> Kind {
         7 => Kind::Ipv6,
         8 => Kind::Bytes,
         _ => panic!("a walk writes no entry of kind {byte}"),
+    }
+}
+
+#[cfg(test)]
+mod tests {
+    use super::*;
+
+    fn bytes(range: Range<u32>) -> Entry {
+        Entry {
+            kind: Kind::Bytes,
+            id: 25,
+            range,
+            value: None,
+        }
+    }
+
+    /// Document 01's condition of refusal 9, at every small range, offset and
+    /// packet length.
+    #[test]
+    fn part_by_its_condition() {
+        let packet: Vec<u8> = (0..5).collect();
+        for (offset, length) in (0..7).flat_map(|o| (0..=5).map(move |n| (o, n))) {
+            for (start, end) in (0..14).flat_map(|s| (0..14).map(move |e| (s, e))) {
+                let outside = start < offset || end < start || end > offset + length;
+                let part = bytes(start..end).part(&packet[..length as usize], offset.into());
+                match part {
+                    Ok(part) => {
+                        let first = (start - offset) as u8;
+                        assert!(!outside);
+                        assert!(part.iter().copied().eq(first..first + (end - start) as u8));
+                    }
+                    Err(refusal) => assert_eq!((outside, refusal), (true, Refusal::Outside)),
+                }
+            }
+        }
+    }
+
+    /// An offset near the largest number makes no sum wrap.
+    #[test]
+    fn part_at_large_offsets() {
+        let packet = [7; 20];
+        for offset in [u64::from(u32::MAX) + 1, u64::MAX - 10, u64::MAX] {
+            assert_eq!(bytes(0..4).part(&packet, offset), Err(Refusal::Outside));
+        }
+        let offset = u64::from(u32::MAX) - 10;
+        let last = bytes(u32::MAX - 10..u32::MAX);
+        assert_eq!(last.part(&packet, offset), Ok(&packet[..10]));
     }
 }

@@ -120,3 +120,38 @@ fn part_of_the_packet() {
         assert_eq!(raw.part(&body, offset + 21), Err(Refusal::Outside));
     }
 }
+
+/// Each bytes entry of an accepted walk is those bytes of what was walked, in
+/// place, and the same bytes of a packet that holds it.
+#[test]
+fn parts_of_accepted_walks() {
+    let front = 9;
+    let mut buffer = Buffer::new();
+    let (mut parts, mut held) = (0, 0);
+    for class in [Class::Structured, Class::Damaged, Class::Offset] {
+        inputs::of_class(class, 4, 20, &mut |input| {
+            let (data, offset) = (&input.data, input.offset);
+            let Ok(strip) = run(&mut buffer, &input) else {
+                return;
+            };
+            let packet = [&vec![0xA5; front], data.as_slice(), &[0xA5; 5]].concat();
+            for entry in strip.entries().filter(|e| e.kind() == Kind::Bytes) {
+                let range = entry.range().unwrap();
+                let place = |at: u32| (u64::from(at) - offset) as usize;
+                let bytes = &data[place(range.start)..place(range.end)];
+                let part = entry.part(data, offset).unwrap();
+                assert_eq!(part.as_ptr_range(), bytes.as_ptr_range());
+                if let Some(base) = offset.checked_sub(front as u64) {
+                    let end = front + place(range.end);
+                    assert_eq!(entry.part(&packet, base), Ok(bytes));
+                    assert_eq!(entry.part(&packet[..end], base), Ok(bytes));
+                    let cut = entry.part(&packet[..end - 1], base);
+                    assert_eq!(cut, Err(Refusal::Outside));
+                    held += 1;
+                }
+                parts += 1;
+            }
+        });
+    }
+    assert!(parts > 1_000 && held > 1_000, "{parts} {held}");
+}

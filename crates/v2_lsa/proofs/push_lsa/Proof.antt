@@ -9,9 +9,9 @@ use borrow.Author.Needs.{needs}
 use Rattle.v2_lsa.proofs.push_lsa.Statement.{statement}
 use Rattle.v2_lsa.proofs.push_lsa.Tie as tie
 
-push-lsa-header-fields-requires : tie.Need-push-lsa-header-fields-requires
+push-lsa-header-requires : tie.Need-push-lsa-header-requires
 unfolding lsaEntries2
-push-lsa-header-fields-requires c κs =
+push-lsa-header-requires c κs =
     let s = c .before .before .before in
     let d = s .args .lsa .now in
     let o = s .args .o in
@@ -62,7 +62,7 @@ push-unparsed-requires c κs =
     let z = to-the-end d 20 in
     let n = length-drop 20 d in
     let p = rw z at (c .before .before .before .before .before .before .push-body .ensures) in
-    let w = c .before .before .before .before .before .before .before .before .before .before .before .before .before .push-lsa-header-fields .ensures .place in
+    let w = c .before .before .before .before .before .before .before .before .before .before .before .before .before .push-lsa-header .ensures .place in
     let l = room-decoded (headerEntries2 d o) 23 25 (bodyOf2 d o) (drop 20 d) (o + 20) _ (s .args .at) _ _ (p .answer) (c .before .before .pushed .given .1) w (s .pre .0) in
     rw z (omega arith)
 
@@ -78,7 +78,7 @@ push-unparsed-requires-2 c κs =
     let z = to-the-end d 20 in
     let n = length-drop 20 d in
     let p = rw z at (c .before .before .before .before .before .push-body .ensures) in
-    let w = c .before .before .before .before .before .before .before .before .before .before .before .before .push-lsa-header-fields .ensures .place in
+    let w = c .before .before .before .before .before .before .before .before .before .before .before .before .push-lsa-header .ensures .place in
     let l = room-raw (headerEntries2 d o) 23 25 (bodyOf2 d o) (drop 20 d) (o + 20) _ (s .args .at) (p .answer) (c .before .enum-told .given .1) w (s .pre .0) in
     rw z (omega arith)
 
@@ -95,7 +95,7 @@ returns c =
     let n = length-drop 20 d in
     let p = rw z at (c .before .before .before .before .before .before .before .before .before .push-body .ensures) in
     let w = rw z at (c .before .before .push-unparsed .ensures) in
-    lsa-decoded (headerEntries2 d o) 23 25 (bodyOf2 d o) (drop 20 d) (o + 20) _ (c .before .before .before .before .before .before .before .before .before .before .before .before .before .before .before .before .push-lsa-header-fields .ensures) p (c .before .before .before .before .before .pushed .given .1) w
+    lsa-decoded (headerEntries2 d o) 23 25 (bodyOf2 d o) (drop 20 d) (o + 20) _ (c .before .before .before .before .before .before .before .before .before .before .before .before .before .before .before .before .push-lsa-header .ensures) p (c .before .before .before .before .before .pushed .given .1) w
 
 same-length-2 : tie.Need-same-length-2
 same-length-2 c = search needs
@@ -110,13 +110,13 @@ returns-2 c =
     let n = length-drop 20 d in
     let p = rw z at (c .before .before .before .before .before .before .before .before .push-body .ensures) in
     let w = rw z at (c .before .before .push-unparsed2 .ensures) in
-    lsa-raw (headerEntries2 d o) 23 25 (bodyOf2 d o) (drop 20 d) (o + 20) _ (c .before .before .before .before .before .before .before .before .before .before .before .before .before .before .before .push-lsa-header-fields .ensures) p (c .before .before .before .before .enum-told .given .1) w
+    lsa-raw (headerEntries2 d o) 23 25 (bodyOf2 d o) (drop 20 d) (o + 20) _ (c .before .before .before .before .before .before .before .before .before .before .before .before .before .before .before .push-lsa-header .ensures) p (c .before .before .before .before .enum-told .given .1) w
 
 pub push-lsa-spec : {M : Type 1} → statement M
 push-lsa-spec =
     tie.close
     (tie.spec
-    push-lsa-header-fields-requires
+    push-lsa-header-requires
     sub-body
     part-body-start
     part-body-end

@@ -13,9 +13,9 @@ use Rattle.v3_lsa.proofs.Bodies.{the-rest}
 use Rattle.v3_lsa.proofs.push_lsa.Statement.{statement}
 use Rattle.v3_lsa.proofs.push_lsa.Tie as tie
 
-push-lsa-header-fields-requires : tie.Need-push-lsa-header-fields-requires
+push-lsa-header-requires : tie.Need-push-lsa-header-requires
 unfolding lsaEntries3
-push-lsa-header-fields-requires c κs =
+push-lsa-header-requires c κs =
     let s = c .before .before .before in
     let d = s .args .lsa .now in
     let b = drop headerSize d in
@@ -56,7 +56,7 @@ enum-known-b : tie.Need-enum-known-b
 enum-known-b c = search needs
 
 -- what `push_body` answers, of the definition
-answer : (c : tie.After-push-body) → c .push-body .result ≡ pushedOf (c .before .before .before .before .before .before .push-lsa-header-fields .result) (bodyOf3 (c .before .before .before .before .before .before .before .before .before .before .args .lsa .now) (c .before .before .before .before .before .before .before .before .before .before .args .o))
+answer : (c : tie.After-push-body) → c .push-body .result ≡ pushedOf (c .before .before .before .before .before .before .push-lsa-header .result) (bodyOf3 (c .before .before .before .before .before .before .before .before .before .before .args .lsa .now) (c .before .before .before .before .before .before .before .before .before .before .args .o))
 answer c = rw (c .before .before .before .function-code .ensures, the-rest (c .before .before .before .before .before .before .before .before .before .before .args .lsa .now) 20) at (c .push-body .ensures .answer)
 
 push-unparsed-requires : tie.Need-push-unparsed-requires
@@ -99,7 +99,7 @@ returns c =
     let d = s .args .lsa .now in
     let w = the-rest d 20 in
     let p = rw (c .before .before .before .before .before .before .before .before .before .before .before .before .function-code .ensures, w) at (c .before .before .before .before .before .before .before .before .before .push-body .ensures) in
-    lsa-decoded (headerEntries3 d (s .args .o)) 31 33 (bodyOf3 d (s .args .o)) (drop headerSize d) (s .args .o + headerSize) (c .before .before .before .before .before .before .before .before .before .push-body .result) (c .before .before .before .before .before .before .before .before .before .before .before .before .before .before .before .push-lsa-header-fields .ensures) p (c .before .before .before .before .before .b .given .1) (rw w at (c .before .before .push-unparsed .ensures))
+    lsa-decoded (headerEntries3 d (s .args .o)) 31 33 (bodyOf3 d (s .args .o)) (drop headerSize d) (s .args .o + headerSize) (c .before .before .before .before .before .before .before .before .before .push-body .result) (c .before .before .before .before .before .before .before .before .before .before .before .before .before .before .before .push-lsa-header .ensures) p (c .before .before .before .before .before .b .given .1) (rw w at (c .before .before .push-unparsed .ensures))
 
 same-length-2 : tie.Need-same-length-2
 same-length-2 c = search needs
@@ -111,13 +111,13 @@ returns-2 c =
     let d = s .args .lsa .now in
     let w = the-rest d 20 in
     let p = rw (c .before .before .before .before .before .before .before .before .before .before .before .function-code .ensures, w) at (c .before .before .before .before .before .before .before .before .push-body .ensures) in
-    lsa-raw (headerEntries3 d (s .args .o)) 31 33 (bodyOf3 d (s .args .o)) (drop headerSize d) (s .args .o + headerSize) (c .before .before .before .before .before .before .before .before .push-body .result) (c .before .before .before .before .before .before .before .before .before .before .before .before .before .before .push-lsa-header-fields .ensures) p (c .before .before .before .before .enum-told .given .1) (rw w at (c .before .before .push-unparsed2 .ensures))
+    lsa-raw (headerEntries3 d (s .args .o)) 31 33 (bodyOf3 d (s .args .o)) (drop headerSize d) (s .args .o + headerSize) (c .before .before .before .before .before .before .before .before .push-body .result) (c .before .before .before .before .before .before .before .before .before .before .before .before .before .before .push-lsa-header .ensures) p (c .before .before .before .before .enum-told .given .1) (rw w at (c .before .before .push-unparsed2 .ensures))
 
 pub push-lsa-spec : {M : Type 1} → statement M
 push-lsa-spec =
     tie.close
     (tie.spec
-    push-lsa-header-fields-requires
+    push-lsa-header-requires
     function-code-requires
     cast-start
     add-start

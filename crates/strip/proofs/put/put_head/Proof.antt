@@ -1,7 +1,14 @@
+use native.Mathlib.Omega.{arith}
+use Rattle.strip.proofs.SwapLaws.{swapped-pair, written-as}
 use Rattle.format.proofs.Wrote.{then}
 use borrow.Author.Needs.{needs}
 use Rattle.strip.proofs.put.put_head.Statement.{statement}
 use Rattle.strip.proofs.put.put_head.Tie as tie
+use Rattle.strip.proofs.put.put_head.Reads as reads
+use Rattle.strip.proofs.put.put_head.Lts as lts
+use Rattle.strip.proofs.put.put_u8.Reads as put-u8-reads
+use Rattle.strip.proofs.swap.put_le64.Reads as put-le64-reads
+use Rattle.strip.proofs.swap.swap_u64.Reads as swap-u64-reads
 
 put-u8-requires : tie.Need-put-u8-requires
 put-u8-requires c κs = search needs
@@ -9,22 +16,26 @@ put-u8-requires c κs = search needs
 put-u8-requires-2 : tie.Need-put-u8-requires-2
 put-u8-requires-2 c κs = search needs
 
-put-u32-requires : tie.Need-put-u32-requires
-put-u32-requires c κs = search needs
+mul-swap-u64 : tie.Need-mul-swap-u64
+mul-swap-u64 c = search needs
 
-put-u32-requires-2 : tie.Need-put-u32-requires-2
-put-u32-requires-2 c κs = search needs
+add-swap-u64 : tie.Need-add-swap-u64
+add-swap-u64 c = search needs
+
+swap-u64-requires : tie.Need-swap-u64-requires
+swap-u64-requires c κs = search needs
+
+put-le64-requires : tie.Need-put-le64-requires
+put-le64-requires c κs = search needs
 
 same-length : tie.Need-same-length
 same-length c = search needs
 
 returns : tie.Need-returns
 returns c =
-    let k4 = c .before .before in
-    let k3 = k4 .before .before .before .before in
-    let k2 = k3 .before .before .before .before in
-    let k1 = k2 .before .before .before .before in
-    then (then (then (k1 .put-u8 .ensures) (k2 .put-u82 .ensures)) (k3 .put-u32 .ensures)) (k4 .put-u322 .ensures)
+    let a = c .before .before .before .before .before .before .before .before .before .before .before .before .before .before .args in
+    let w = rw (c .before .before .before .swap-u64 .ensures) at (c .before .before .put-le64 .ensures) in
+    then (then (c .before .before .before .before .before .before .before .before .before .before .before .put-u8 .ensures) (c .before .before .before .before .before .before .before .put-u82 .ensures)) (written-as (swapped-pair (a .start) (a .end) (omega arith) (omega arith)) w)
 
 pub put-head-spec : {M : Type 1} → statement M
 put-head-spec =
@@ -32,7 +43,9 @@ put-head-spec =
     (tie.spec
     put-u8-requires
     put-u8-requires-2
-    put-u32-requires
-    put-u32-requires-2
+    mul-swap-u64
+    add-swap-u64
+    swap-u64-requires
+    put-le64-requires
     same-length
     returns)

@@ -1,30 +1,27 @@
-use Rattle.format.proofs.Wrote.{then}
+use native.Mathlib.Omega.{arith}
+use Rattle.strip.proofs.SwapLaws.{swapped16, written-as}
 use borrow.Author.Needs.{needs}
 use Rattle.strip.proofs.put.put_u16.Statement.{statement}
 use Rattle.strip.proofs.put.put_u16.Tie as tie
+use Rattle.strip.proofs.put.put_u16.Reads as reads
+use Rattle.strip.proofs.put.put_u16.Lts as lts
+use Rattle.strip.proofs.swap.put_le16.Reads as put-le16-reads
+use Rattle.strip.proofs.swap.swap_u16.Reads as swap-u16-reads
 
-cast-put-u8 : tie.Need-cast-put-u8
-cast-put-u8 c = search needs
+swap-u16-requires : tie.Need-swap-u16-requires
+swap-u16-requires c κs = search needs
 
-put-u8-requires : tie.Need-put-u8-requires
-put-u8-requires c κs = search needs
-
-cast-put-u8-2 : tie.Need-cast-put-u8-2
-cast-put-u8-2 c = search needs
-
-put-u8-requires-2 : tie.Need-put-u8-requires-2
-put-u8-requires-2 c κs = search needs
+put-le16-requires : tie.Need-put-le16-requires
+put-le16-requires c κs = search needs
 
 same-length : tie.Need-same-length
 same-length c = search needs
 
 returns : tie.Need-returns
 returns c =
-    let k2 = c .before .before in
-    let k1 = k2 .before .before .before .before in
-    then (k1 .put-u8 .ensures) (k2 .put-u82 .ensures)
+    let x = c .before .before .before .before .before .before .args .x in
+    let w = rw (c .before .before .before .swap-u16 .ensures) at (c .before .before .put-le16 .ensures) in
+    written-as (swapped16 x (omega arith)) w
 
 pub put-u16-spec : {M : Type 1} → statement M
-put-u16-spec =
-    tie.close
-    (tie.spec cast-put-u8 put-u8-requires cast-put-u8-2 put-u8-requires-2 same-length returns)
+put-u16-spec = tie.close (tie.spec swap-u16-requires put-le16-requires same-length returns)

@@ -1,30 +1,27 @@
-use Rattle.format.proofs.Wrote.{then}
+use native.Mathlib.Omega.{arith}
+use Rattle.strip.proofs.SwapLaws.{swapped32, written-as}
 use borrow.Author.Needs.{needs}
 use Rattle.strip.proofs.put.put_u32.Statement.{statement}
 use Rattle.strip.proofs.put.put_u32.Tie as tie
+use Rattle.strip.proofs.put.put_u32.Reads as reads
+use Rattle.strip.proofs.put.put_u32.Lts as lts
+use Rattle.strip.proofs.swap.put_le32.Reads as put-le32-reads
+use Rattle.strip.proofs.swap.swap_u32.Reads as swap-u32-reads
 
-cast-put-u16 : tie.Need-cast-put-u16
-cast-put-u16 c = search needs
+swap-u32-requires : tie.Need-swap-u32-requires
+swap-u32-requires c κs = search needs
 
-put-u16-requires : tie.Need-put-u16-requires
-put-u16-requires c κs = search needs
-
-cast-put-u16-2 : tie.Need-cast-put-u16-2
-cast-put-u16-2 c = search needs
-
-put-u16-requires-2 : tie.Need-put-u16-requires-2
-put-u16-requires-2 c κs = search needs
+put-le32-requires : tie.Need-put-le32-requires
+put-le32-requires c κs = search needs
 
 same-length : tie.Need-same-length
 same-length c = search needs
 
 returns : tie.Need-returns
 returns c =
-    let k2 = c .before .before in
-    let k1 = k2 .before .before .before .before in
-    then (k1 .put-u16 .ensures) (k2 .put-u162 .ensures)
+    let x = c .before .before .before .before .before .before .args .x in
+    let w = rw (c .before .before .before .swap-u32 .ensures) at (c .before .before .put-le32 .ensures) in
+    written-as (swapped32 x (omega arith)) w
 
 pub put-u32-spec : {M : Type 1} → statement M
-put-u32-spec =
-    tie.close
-    (tie.spec cast-put-u16 put-u16-requires cast-put-u16-2 put-u16-requires-2 same-length returns)
+put-u32-spec = tie.close (tie.spec swap-u32-requires put-le32-requires same-length returns)

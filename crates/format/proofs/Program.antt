@@ -1,0 +1,127 @@
+-- The program: when it refuses, and the worked listing of the requirements.
+use Prim.Native.Nat.{ℕ, _≤_, _<_}
+use native.Mathlib.Omega.{arith}
+use mathlib.Core.Path.{_≡_, refl, sym, _∙_}
+use mathlib.Core.Logic.{inl, inr, ⊎-elim}
+use mathlib.Core.Bool.{Bool, true, false, cond}
+use mathlib.Core.List.{List, [], _∷_, _++_, flatMap}
+use lib.ListN.{length, getD, drop, length-drop}
+use lib.Dec.{eqb, ltb}
+use borrow.Author.Tests.{lt-ltb, le-ltb, ltb-true, ltb-false}
+use Rattle.format.specs.Strip.{Entry, code, encode, container}
+use Rattle.format.specs.Cut.{cut, standing, after}
+use Rattle.format.specs.Header.{headerEntries2}
+use Rattle.format.specs.Body.{listing, leftover, whole}
+use Rattle.format.specs.Walks.{Outcome, answerOf, unless, refusal, isKnown, maxData, maxOffset, headersOf, updateOf, lsaOf, outer, headerObject}
+use Rattle.format.specs.Walks.Outcome.{refused, accepted}
+use Rattle.format.specs.Print.{maxInput, stripRoom, countOf, walkOf, programOf, walkNumber, digits, hex, line, firstLine, printed, ProgramRefusals}
+use Rattle.format.proofs.Refusals.{number-is}
+
+-- A walk over no more data than it may have does not answer 2, and no walk answers more than 5.
+numbers : (v : ℕ) (d : List ℕ) (o least : ℕ) (es : List Entry) (r t room : ℕ) → length d ≤ maxData
+    → (answerOf (unless (refusal v d o least) (accepted es r t)) room .number ≡ 2 → ⊥) × (answerOf (unless (refusal v d o least) (accepted es r t)) room .number ≤ 5)
+numbers v d o least es r t room h =
+    rw (number-is v d o least es r t room, le-ltb maxData (length d) h)
+    (go (isKnown v) (ltb maxOffset o) (ltb (length d) least) (ltb room (length (encode es))))
+  where
+    go : (a c e f : Bool) → (_≡_ {A = ℕ} (cond a (cond c 3 (cond e 4 (cond f 5 0))) 1) 2 → ⊥) × (cond a (cond c 3 (cond e 4 (cond f 5 0))) 1 ≤ 5)
+    go false c e f = (λ z. omega arith, omega arith)
+    go true true e f = (λ z. omega arith, omega arith)
+    go true false true f = (λ z. omega arith, omega arith)
+    go true false false true = (λ z. omega arith, omega arith)
+    go true false false false = (λ z. omega arith, omega arith)
+
+walk-numbers : (v w : ℕ) (d : List ℕ) → length d ≤ maxData → (answerOf (walkOf v w d) stripRoom .number ≡ 2 → ⊥) × (answerOf (walkOf v w d) stripRoom .number ≤ 5)
+unfolding walkOf headersOf updateOf lsaOf
+walk-numbers v w d h = go (eqb w 0) (eqb w 1)
+  where
+    go : (s t : Bool) → (answerOf (cond s (headersOf v d 0) (cond t (updateOf v d (countOf d) 0) (lsaOf v d 0))) stripRoom .number ≡ 2 → ⊥)
+        × (answerOf (cond s (headersOf v d 0) (cond t (updateOf v d (countOf d) 0) (lsaOf v d 0))) stripRoom .number ≤ 5)
+    go true t = numbers v d 0 0 _ _ _ stripRoom h
+    go false true = numbers v d 0 4 _ _ _ stripRoom h
+    go false false = numbers v d 0 20 _ _ _ stripRoom h
+
+-- The tests of the program, in their order.
+pub program-refusals : (input : List ℕ) → ProgramRefusals input (answerOf (programOf input) stripRoom .number)
+unfolding programOf answerOf
+program-refusals input = first (ltb maxInput (length input)) refl
+  where
+    third : (t : Bool) → ltb 2 (getD input 1 0) ≡ t → length input ≤ maxInput → 2 ≤ length input
+        → ProgramRefusals input (answerOf (cond t (refused 12) (walkOf (getD input 0 0) (getD input 1 0) (drop 2 input))) stripRoom .number)
+    third true e l m =
+        let h = ltb-true 2 (getD input 1 0) e in record {
+          two = (λ z. absurd (omega arith), λ z. absurd (omega arith));
+          four = (λ z. absurd (omega arith), λ p. absurd (⊎-elim (λ s. omega arith) (λ q. q .1 h) (p .1)));
+          twelve = (λ z. (λ a. omega arith, λ a. omega arith, h), λ p. refl);
+          walks = λ a b c. absurd (c h);
+        }
+    third false e l m =
+        let h = ltb-false 2 (getD input 1 0) e in
+        let d = length-drop 2 input in
+        let n = walk-numbers (getD input 0 0) (getD input 1 0) (drop 2 input) (omega arith) in record {
+          two = (λ z. absurd (n .0 z), λ z. absurd (omega arith));
+          four = (λ z. (λ a. omega arith, inr (λ a. omega arith, λ a. omega arith, z)), λ p. ⊎-elim (λ s. absurd (omega arith)) (λ q. q .2) (p .1));
+          twelve = (λ z. absurd (let k = n .1 in omega arith), λ p. absurd (let k = p .2 in omega arith));
+          walks = λ a b c. refl;
+        }
+
+    second : (t : Bool) → ltb (length input) 2 ≡ t → length input ≤ maxInput
+        → ProgramRefusals input (answerOf (cond t (refused 4) (cond (ltb 2 (getD input 1 0)) (refused 12) (walkOf (getD input 0 0) (getD input 1 0) (drop 2 input)))) stripRoom .number)
+    second true e l =
+        let h = ltb-true (length input) 2 e in record {
+          two = (λ z. absurd (omega arith), λ z. absurd (omega arith));
+          four = (λ z. (λ a. omega arith, inl h), λ p. refl);
+          twelve = (λ z. absurd (omega arith), λ p. absurd (p .1 h));
+          walks = λ a b c. absurd (b h);
+        }
+    second false e l = third (ltb 2 (getD input 1 0)) refl l (ltb-false (length input) 2 e)
+
+    first : (t : Bool) → ltb maxInput (length input) ≡ t
+        → ProgramRefusals input (answerOf (cond t (refused 2) (cond (ltb (length input) 2) (refused 4) (cond (ltb 2 (getD input 1 0)) (refused 12) (walkOf (getD input 0 0) (getD input 1 0) (drop 2 input))))) stripRoom .number)
+    first true e =
+        let h = ltb-true maxInput (length input) e in record {
+          two = (λ z. h, λ p. refl);
+          four = (λ z. absurd (omega arith), λ p. absurd (p .0 h));
+          twelve = (λ z. absurd (omega arith), λ p. absurd (p .0 h));
+          walks = λ a b c. absurd (a h);
+        }
+    first false e = second (ltb (length input) 2) refl (ltb-false maxInput (length input) e)
+
+-- One header of version 2 and a byte more.
+abbrev input : List ℕ
+input = 2 ∷ 0 ∷ 0 ∷ 1 ∷ 2 ∷ 1 ∷ 10 ∷ 0 ∷ 0 ∷ 1 ∷ 10 ∷ 0 ∷ 0 ∷ 1 ∷ 128 ∷ 0 ∷ 0 ∷ 1 ∷ 18 ∷ 52 ∷ 0 ∷ 24 ∷ 255 ∷ []
+
+abbrev text : List ℕ
+text =
+    -- ok 1 1 132
+    (111 ∷ 107 ∷ 32 ∷ 49 ∷ 32 ∷ 49 ∷ 32 ∷ 49 ∷ 51 ∷ 50 ∷ 10 ∷ []) ++
+    -- open 114 0 20
+    (111 ∷ 112 ∷ 101 ∷ 110 ∷ 32 ∷ 49 ∷ 49 ∷ 52 ∷ 32 ∷ 48 ∷ 32 ∷ 50 ∷ 48 ∷ 10 ∷ []) ++
+    -- open 112 0 20
+    (111 ∷ 112 ∷ 101 ∷ 110 ∷ 32 ∷ 49 ∷ 49 ∷ 50 ∷ 32 ∷ 48 ∷ 32 ∷ 50 ∷ 48 ∷ 10 ∷ []) ++
+    -- u16 0 0 2 1
+    (117 ∷ 49 ∷ 54 ∷ 32 ∷ 48 ∷ 32 ∷ 48 ∷ 32 ∷ 50 ∷ 32 ∷ 49 ∷ 10 ∷ []) ++
+    -- u8 1 2 3 2
+    (117 ∷ 56 ∷ 32 ∷ 49 ∷ 32 ∷ 50 ∷ 32 ∷ 51 ∷ 32 ∷ 50 ∷ 10 ∷ []) ++
+    -- u8 2 3 4 1
+    (117 ∷ 56 ∷ 32 ∷ 50 ∷ 32 ∷ 51 ∷ 32 ∷ 52 ∷ 32 ∷ 49 ∷ 10 ∷ []) ++
+    -- ip4 3 4 8 10.0.0.1
+    (105 ∷ 112 ∷ 52 ∷ 32 ∷ 51 ∷ 32 ∷ 52 ∷ 32 ∷ 56 ∷ 32 ∷ 49 ∷ 48 ∷ 46 ∷ 48 ∷ 46 ∷ 48 ∷ 46 ∷ 49 ∷ 10 ∷ []) ++
+    -- ip4 4 8 12 10.0.0.1
+    (105 ∷ 112 ∷ 52 ∷ 32 ∷ 52 ∷ 32 ∷ 56 ∷ 32 ∷ 49 ∷ 50 ∷ 32 ∷ 49 ∷ 48 ∷ 46 ∷ 48 ∷ 46 ∷ 48 ∷ 46 ∷ 49 ∷ 10 ∷ []) ++
+    -- u32 5 12 16 2147483649
+    (117 ∷ 51 ∷ 50 ∷ 32 ∷ 53 ∷ 32 ∷ 49 ∷ 50 ∷ 32 ∷ 49 ∷ 54 ∷ 32 ∷ 50 ∷ 49 ∷ 52 ∷ 55 ∷ 52 ∷ 56 ∷ 51 ∷ 54 ∷ 52 ∷ 57 ∷ 10 ∷ []) ++
+    -- u16 6 16 18 4660
+    (117 ∷ 49 ∷ 54 ∷ 32 ∷ 54 ∷ 32 ∷ 49 ∷ 54 ∷ 32 ∷ 49 ∷ 56 ∷ 32 ∷ 52 ∷ 54 ∷ 54 ∷ 48 ∷ 10 ∷ []) ++
+    -- u16 7 18 20 24
+    (117 ∷ 49 ∷ 54 ∷ 32 ∷ 55 ∷ 32 ∷ 49 ∷ 56 ∷ 32 ∷ 50 ∷ 48 ∷ 32 ∷ 50 ∷ 52 ∷ 10 ∷ []) ++
+    -- close
+    (99 ∷ 108 ∷ 111 ∷ 115 ∷ 101 ∷ 10 ∷ []) ++
+    -- close
+    (99 ∷ 108 ∷ 111 ∷ 115 ∷ 101 ∷ 10 ∷ []) ++
+    -- bytes 25 20 21
+    98 ∷ 121 ∷ 116 ∷ 101 ∷ 115 ∷ 32 ∷ 50 ∷ 53 ∷ 32 ∷ 50 ∷ 48 ∷ 32 ∷ 50 ∷ 49 ∷ 10 ∷ []
+
+pub worked-listing : printed input ≡ text
+unfolding printed firstLine line digits hex programOf walkOf headersOf answerOf unless outer listing leftover headerObject container encode code flatMap whole cut standing headerEntries2 after
+worked-listing = refl

@@ -1,0 +1,157 @@
+-- The program: what it makes of its input, and the text that it prints. Text is a list of ASCII codes.
+use Prim.Native.Nat.{ℕ, zero, suc, _+_, _/_, _%_, _<_}
+use mathlib.Core.Path.{_≡_}
+use mathlib.Core.Logic.{_↔_, _⊎_}
+use mathlib.Core.Bool.{cond}
+use mathlib.Core.List.{List, [], _∷_, _++_, flatMap}
+use lib.ListN.{length, getD, drop}
+use lib.Dec.{ltb, eqb}
+use Rattle.format.specs.Bytes.{be32At}
+use Rattle.format.specs.Strip.{Entry}
+use Rattle.format.specs.Strip.Entry.{opens, closes, u8, u16, u32, ip4, ip6, bytes}
+use Rattle.format.specs.Walks.{Outcome, Answer, headersOf, updateOf, lsaOf, answerOf}
+use Rattle.format.specs.Walks.Outcome.{refused, accepted}
+
+-- The most bytes of input, and the room of the program's strip buffer.
+abbrev pub maxInput : ℕ
+maxInput = 2050
+
+abbrev pub stripRoom : ℕ
+stripRoom = 65536
+
+-- An update's count is its first four bytes, 0 if they are not there.
+abbrev pub countOf : List ℕ → ℕ
+countOf d = cond (ltb (length d) 4) 0 (be32At d 0)
+
+-- The walk that the second byte names: 0 headers, 1 update, 2 single LSA.
+unfoldable pub walkOf : (version walk : ℕ) → List ℕ → Outcome
+walkOf v w d = cond (eqb w 0) (headersOf v d 0) (cond (eqb w 1) (updateOf v d (countOf d) 0) (lsaOf v d 0))
+
+-- Version, walk, data. 2: too much input; 4: no version or no walk; 12: no such walk; then the walk's own refusals.
+unfoldable pub programOf : List ℕ → Outcome
+programOf input =
+    cond (ltb maxInput (length input)) (refused 2)
+    (cond (ltb (length input) 2) (refused 4)
+    (cond (ltb 2 (getD input 1 0)) (refused 12)
+    (walkOf (getD input 0 0) (getD input 1 0) (drop 2 input))))
+
+-- A number in decimal. The first argument is one less than the most digits.
+unfoldable pub digits : ℕ → ℕ → List ℕ
+digits zero n = (48 + n % 10) ∷ []
+digits (suc k) n = cond (ltb n 10) ((48 + n % 10) ∷ []) (digits k (n / 10) ++ ((48 + n % 10) ∷ []))
+
+-- Twenty digits hold every number of 64 bits.
+abbrev pub decimal : ℕ → List ℕ
+decimal n = digits 19 n
+
+-- A number after a space.
+abbrev pub spaced : ℕ → List ℕ
+spaced n = 32 ∷ decimal n
+
+-- The last k digits in base 16, in lower case.
+abbrev pub hexDigit : ℕ → ℕ
+hexDigit d = cond (ltb d 10) (48 + d) (87 + d)
+
+unfoldable pub hex : ℕ → ℕ → List ℕ
+hex zero n = []
+hex (suc k) n = hex k (n / 16) ++ (hexDigit (n % 16) ∷ [])
+
+-- The four bytes of an address in decimal, joined by dots.
+abbrev pub dot : ℕ → List ℕ
+dot n = decimal n ++ (46 ∷ [])
+
+abbrev pub dotted : ℕ → List ℕ
+dotted a = dot (a / 16777216) ++ (dot (a / 65536 % 256) ++ (dot (a / 256 % 256) ++ decimal (a % 256)))
+
+-- Id, start and end.
+abbrev pub place : ℕ → ℕ → ℕ → List ℕ
+place i s e = spaced i ++ (spaced s ++ spaced e)
+
+abbrev pub newline : List ℕ
+newline = 10 ∷ []
+
+-- The kind words.
+abbrev pub openWord : List ℕ
+openWord = 111 ∷ 112 ∷ 101 ∷ 110 ∷ []
+
+abbrev pub closeWord : List ℕ
+closeWord = 99 ∷ 108 ∷ 111 ∷ 115 ∷ 101 ∷ []
+
+abbrev pub u8Word : List ℕ
+u8Word = 117 ∷ 56 ∷ []
+
+abbrev pub u16Word : List ℕ
+u16Word = 117 ∷ 49 ∷ 54 ∷ []
+
+abbrev pub u32Word : List ℕ
+u32Word = 117 ∷ 51 ∷ 50 ∷ []
+
+abbrev pub ip4Word : List ℕ
+ip4Word = 105 ∷ 112 ∷ 52 ∷ []
+
+abbrev pub ip6Word : List ℕ
+ip6Word = 105 ∷ 112 ∷ 54 ∷ []
+
+abbrev pub bytesWord : List ℕ
+bytesWord = 98 ∷ 121 ∷ 116 ∷ 101 ∷ 115 ∷ []
+
+-- Kind word, id, start and end.
+abbrev pub field : List ℕ → ℕ → ℕ → ℕ → List ℕ
+field word i s e = word ++ place i s e
+
+-- The line of an entry: its field, and a value where it has one.
+unfoldable pub line : Entry → List ℕ
+line (opens i s e) = field openWord i s e ++ newline
+line closes = closeWord ++ newline
+line (u8 i s e v) = (field u8Word i s e ++ spaced v) ++ newline
+line (u16 i s e v) = (field u16Word i s e ++ spaced v) ++ newline
+line (u32 i s e v) = (field u32Word i s e ++ spaced v) ++ newline
+line (ip4 i s e a) = (field ip4Word i s e ++ (32 ∷ dotted a)) ++ newline
+line (ip6 i s e h l) = (field ip6Word i s e ++ (32 ∷ (hex 16 h ++ hex 16 l))) ++ newline
+line (bytes i s e) = field bytesWord i s e ++ newline
+
+-- No line is longer.
+abbrev pub lineRoom : ℕ
+lineRoom = 160
+
+abbrev pub okWord : List ℕ
+okWord = 111 ∷ 107 ∷ []
+
+abbrev pub refusedWord : List ℕ
+refusedWord = 114 ∷ 101 ∷ 102 ∷ 117 ∷ 115 ∷ 101 ∷ 100 ∷ []
+
+-- The first line: `ok`, records, tail, strip length; or `refused`, number, length needed or 0.
+unfoldable pub firstLine : Answer → List ℕ
+firstLine a = cond (eqb (a .number) 0)
+    (okWord ++ (spaced (a .records) ++ (spaced (a .tail) ++ (spaced (a .size) ++ newline))))
+    (refusedWord ++ (spaced (a .number) ++ (spaced (a .size) ++ newline)))
+
+-- The entries whose lines follow.
+abbrev pub shownOf : Outcome → (room : ℕ) → List Entry
+shownOf (refused n) room = []
+shownOf (accepted es r t) room = cond (eqb (answerOf (accepted es r t) room .number) 0) es []
+
+-- All that the program prints.
+unfoldable pub printed : List ℕ → List ℕ
+printed input = firstLine (answerOf (programOf input) stripRoom) ++ flatMap line (shownOf (programOf input) stripRoom)
+
+-- The number of the walk that the input names.
+abbrev pub walkNumber : List ℕ → ℕ
+walkNumber input = answerOf (walkOf (getD input 0 0) (getD input 1 0) (drop 2 input)) stripRoom .number
+
+-- The conditions of the program's own refusals, in their order.
+abbrev pub TooLong : List ℕ → Type 0
+TooLong input = maxInput < length input
+
+abbrev pub TooShort : List ℕ → Type 0
+TooShort input = length input < 2
+
+abbrev pub NoWalk : List ℕ → Type 0
+NoWalk input = 2 < getD input 1 0
+
+-- Each is answered exactly when its condition holds and none before it does; then come the walk's.
+pub record ProgramRefusals (input : List ℕ) (number : ℕ) : Type 0 where
+  pub two : (number ≡ 2) ↔ TooLong input
+  pub four : (number ≡ 4) ↔ ((TooLong input → ⊥) × (TooShort input ⊎ ((TooShort input → ⊥) × (NoWalk input → ⊥) × (walkNumber input ≡ 4))))
+  pub twelve : (number ≡ 12) ↔ ((TooLong input → ⊥) × (TooShort input → ⊥) × NoWalk input)
+  pub walks : (TooLong input → ⊥) → (TooShort input → ⊥) → (NoWalk input → ⊥) → number ≡ walkNumber input

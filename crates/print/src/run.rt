@@ -1,0 +1,64 @@
+// What the program makes of its input: version, walk, data.
+ghost use mathlib.Core.Path.{_≡_};
+ghost use Prim.Native.Nat.{_≤_};
+ghost use lib.ListN.{length};
+ghost use Rattle.format.specs.Walks.{answerOf, stripOf};
+ghost use Rattle.format.specs.Print.{countOf, walkOf, programOf};
+ghost use Rattle.common.specs.Answers.{answered};
+use common::Answer;
+use common::push_lsa;
+use common::push_lsa_headers;
+use common::push_lsu_lsas;
+use common::refused;
+use util::read_be_u32;
+
+// The most bytes of input.
+pub const MAX_INPUT: usize = 2050;
+
+// The program's refusals before those of the walk.
+const TOO_MUCH: u8 = 2;
+
+const TOO_LITTLE: u8 = 4;
+
+const NO_WALK: u8 = 12;
+
+pub fn run(input: &[u8], strip: &mut [u8]) -> Answer
+    ensures { λ r. ⌜ r ≡ answered (answerOf (programOf (now (input .entry))) (length (now (strip .entry)))) ⌝ }
+    ensures { λ r. ⌜ now (strip .exit) ≡ stripOf (programOf (now (input .entry))) (now (strip .entry)) ⌝ }
+    ensures { λ r. ⌜ (r .number ≡ 0 → r .length ≤ length (now (strip .exit))) ⌝ }
+{
+    if MAX_INPUT < input.len() {
+        return refused(TOO_MUCH);
+    }
+    if input.len() < 2 {
+        return refused(TOO_LITTLE);
+    }
+    if 2 < input[1] {
+        return refused(NO_WALK);
+    }
+    walk(input[0], input[1], &input[2..], strip)
+}
+
+// The walk by its number, at the offset 0.
+fn walk(version: u8, walk: u8, data: &[u8], strip: &mut [u8]) -> Answer
+    ensures { λ r. ⌜ r ≡ answered (answerOf (walkOf version walk (now («data» .entry))) (length (now (strip .entry)))) ⌝ }
+    ensures { λ r. ⌜ now (strip .exit) ≡ stripOf (walkOf version walk (now («data» .entry))) (now (strip .entry)) ⌝ }
+{
+    if walk == 0 {
+        push_lsa_headers(version, data, 0, strip)
+    } else if walk == 1 {
+        push_lsu_lsas(version, data, count_of(data), 0, strip)
+    } else {
+        push_lsa(version, data, 0, strip)
+    }
+}
+
+// An update's count: its first four bytes.
+fn count_of(data: &[u8]) -> u32
+    ensures { λ r. ⌜ r ≡ countOf (now («data» .entry)) ⌝ }
+{
+    if data.len() < 4 {
+        return 0;
+    }
+    read_be_u32(data, 0)
+}

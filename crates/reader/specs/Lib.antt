@@ -1,0 +1,2 @@
+-- The reader's own words: where it stands after a step.
+pub mod After

@@ -1,0 +1,20 @@
+use mathlib.Core.Path.{refl}
+use Rattle.strip.specs.Swap.{swap16}
+use borrow.Author.Needs.{needs}
+use Rattle.strip.proofs.swap.swap_u16.Statement.{statement}
+use Rattle.strip.proofs.swap.swap_u16.Tie as tie
+use Rattle.strip.proofs.swap.swap_u16.Reads as reads
+use Rattle.strip.proofs.swap.swap_u16.Lts as lts
+
+mul-result : tie.Need-mul-result
+mul-result c = search needs
+
+add-result : tie.Need-add-result
+add-result c = search needs
+
+returns : tie.Need-returns
+unfolding swap16
+returns c = refl
+
+pub swap-u16-spec : {M : Type 1} → statement M
+swap-u16-spec = tie.close (tie.spec mul-result add-result returns)

@@ -1,0 +1,77 @@
+//! What the benchmark runs: the proved walks of `libospf.a`, the same strip
+//! written by careful Rust, and the reference's own functions over the
+//! recording stand-in; and the corpus it runs them on.
+
+// The reference, from where it lies, as `host/oracle` compiles it. It is
+// compiled here again to be timed without the making of a strip.
+include!(concat!(env!("OUT_DIR"), "/modules.rs"));
+
+#[allow(dead_code)]
+#[rustfmt::skip]
+#[path = "../../../docs/src/crates/packet-dissector-ospf/src/tlv.rs"]
+pub(crate) mod tlv;
+
+#[allow(dead_code)]
+#[rustfmt::skip]
+#[path = "../../../docs/src/crates/packet-dissector-ospf/src/v2_lsa.rs"]
+pub(crate) mod v2_lsa;
+
+#[allow(dead_code)]
+#[rustfmt::skip]
+#[path = "../../../docs/src/crates/packet-dissector-ospf/src/v3_lsa.rs"]
+pub(crate) mod v3_lsa;
+
+// Ours.
+pub mod careful;
+pub mod corpus;
+mod reference;
+
+use inputs::Input;
+use oracle::Walk;
+use ospf_strip::walks;
+
+/// What is compared.
+#[derive(Clone, Copy, Debug, PartialEq, Eq)]
+pub enum Way {
+    /// The proved walks.
+    Port,
+    /// The same strip by hand-written Rust.
+    Careful,
+    /// The reference's functions over the recording stand-in.
+    Reference,
+}
+
+/// All ways, in the order in which they are printed.
+pub const WAYS: [Way; 3] = [Way::Port, Way::Careful, Way::Reference];
+
+impl Way {
+    /// Runs one call, and gives a number that depends on its result. `strip`
+    /// is lent as it is; the reference does not use it.
+    pub fn run(self, input: &Input, strip: &mut [u8]) -> u64 {
+        match self {
+            Way::Port => port(input, strip),
+            Way::Careful => careful(input, strip),
+            Way::Reference => reference::fields(input) as u64,
+        }
+    }
+}
+
+/// The proved walks.
+pub fn port(input: &Input, strip: &mut [u8]) -> u64 {
+    let (version, data, offset) = (input.version, &input.data, input.offset);
+    match input.walk {
+        Walk::Headers => walks::ospf_lsa_headers(version, data, offset, strip),
+        Walk::Update => walks::ospf_lsu_lsas(version, data, input.count, offset, strip),
+        Walk::Lsa => walks::ospf_lsa(version, data, offset, strip),
+    }
+}
+
+/// The hand-written ones.
+pub fn careful(input: &Input, strip: &mut [u8]) -> u64 {
+    let (version, data, offset) = (input.version, &input.data, input.offset);
+    match input.walk {
+        Walk::Headers => careful::lsa_headers(version, data, offset, strip),
+        Walk::Update => careful::lsu_lsas(version, data, input.count, offset, strip),
+        Walk::Lsa => careful::lsa(version, data, offset, strip),
+    }
+}

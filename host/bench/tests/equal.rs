@@ -1,0 +1,45 @@
+//! The hand-written walks give the port's answers and strips.
+
+use bench::corpus::{KINDS, worst};
+use bench::{careful, port};
+use inputs::{CLASSES, Input};
+
+/// How much longer than needed the larger buffer is.
+const MORE: usize = 37;
+
+/// Both walks on one input, with a buffer that is empty, one byte short,
+/// full, and larger.
+fn check(input: &Input) {
+    let needed = port(input, &mut []) as u32 as usize;
+    for room in [0, needed.saturating_sub(1), needed, needed + MORE] {
+        let mut expected = vec![0xA5; room];
+        let mut found = expected.clone();
+        let answer = port(input, &mut expected);
+        assert_eq!(careful(input, &mut found), answer, "{input:?}");
+        assert!(found == expected, "{input:?}, room {room}");
+    }
+}
+
+#[test]
+fn on_the_corpus() {
+    for kind in KINDS {
+        for size in [4, 1_500, 65_535] {
+            kind.inputs(size).iter().for_each(check);
+        }
+    }
+    for worst in worst() {
+        check(&worst.input);
+    }
+}
+
+#[test]
+fn on_generated_inputs() {
+    for class in CLASSES {
+        let mut inputs = 0;
+        inputs::of_class(class, 5, 60, &mut |input| {
+            check(&input);
+            inputs += 1;
+        });
+        assert!(inputs > 0, "{class:?}");
+    }
+}
