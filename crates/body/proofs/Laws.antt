@@ -4,7 +4,8 @@ use native.Mathlib.Nat.{add-zero}
 use native.Mathlib.Omega.{arith}
 use mathlib.Core.Path.{_≡_, refl, sym, ap, _∙_}
 use mathlib.Core.List.{List, [], _++_}
-use lib.ListN.{length, length-append}
+use lib.ListN.{length, take, drop, length-append, length-drop}
+use lib.Seq.{take-all}
 use Rattle.format.specs.Strip.{Entry, encode}
 use Rattle.format.specs.Wrote.{Wrote}
 use Rattle.format.specs.Body as body
@@ -89,3 +90,41 @@ module _ (hs : List Entry) (r u : ℕ) (x : body.Body) (b : List ℕ) (o : ℕ) 
       let d = pushed-is-raw x a₁ y (p .answer) e in
       let own : Wrote l₁ a₁ (bytesOf x) l₂ a₁ = record { place = rw (d .0, add-zero); contents = p .contents } in
       rw (encode-lsa hs r u x b o, d .1 r u b o) (then v (then own w))
+
+-- Two answers are the same where their parts are.
+pub same-decoded : {a a′ n n′ : ℕ} → a ≡ a′ → n ≡ n′ → Decoded a n ≡ Decoded a′ n′
+same-decoded e f = rw (e, f)
+
+-- All bytes from n on are what `drop` leaves.
+pub to-the-end : (d : List ℕ) (n : ℕ) → take (length d - n) (drop n d) ≡ drop n d
+to-the-end d n = take-all (length d - n) (drop n d) (let l = length-drop n d in omega arith)
+
+-- What is left of a body has room where the whole LSA has, and adds to its length.
+module _ (hs : List Entry) (r u : ℕ) (x : body.Body) (b : List ℕ) (o : ℕ) (y : Body) where
+  pub room-decoded : (a₀ : ℕ) {a₁ m : ℕ} (a n : ℕ) → y ≡ pushedOf a₁ x → y ≡ Decoded a n → a₁ ≡ a₀ + length (encode hs)
+      → a₀ + length (encode (hs ++ bodyEntries r u x b o)) ≤ m → a + length (encode (leftover u b o n)) ≤ m
+  room-decoded a₀ {a₁ = a₁} a n p e h l =
+      let d = pushed-is-decoded x a₁ a n y p e in
+      let q = rw (d .1 r u b o) at (length-lsa hs r u x b o) in
+      omega (arith, d .0)
+
+  pub room-raw : (a₀ : ℕ) {a₁ m : ℕ} → y ≡ pushedOf a₁ x → y ≡ Raw → a₁ ≡ a₀ + length (encode hs)
+      → a₀ + length (encode (hs ++ bodyEntries r u x b o)) ≤ m → a₁ + length (encode (leftover r b o 0)) ≤ m
+  room-raw a₀ {a₁ = a₁} p e h l =
+      let d = pushed-is-raw x a₁ y p e in
+      let q = rw (d .1 r u b o, d .0) at (length-lsa hs r u x b o) in
+      omega arith
+
+  pub length-decoded : (a n : ℕ) → y ≡ measuredOf x → y ≡ Decoded a n
+      → length (encode hs) + a + length (encode (leftover u b o n)) ≡ length (encode (hs ++ bodyEntries r u x b o))
+  length-decoded a n p e =
+      let d = measured-is-decoded x a n y p e in
+      let q = rw (d .2 r u b o) at (length-lsa hs r u x b o) in
+      omega (arith, d .0)
+
+  pub length-raw : y ≡ measuredOf x → y ≡ Raw
+      → length (encode hs) + length (encode (leftover r b o 0)) ≡ length (encode (hs ++ bodyEntries r u x b o))
+  length-raw p e =
+      let d = measured-is-raw x y p e in
+      let q = rw (d .2 r u b o, d .0) at (length-lsa hs r u x b o) in
+      omega arith

@@ -1,7 +1,7 @@
 // What the LSA bodies of both versions share: the answer of a body's functions, the array of attached routers, and the
 // bytes that are left of a body.
 ghost use mathlib.Core.Path.{_≡_};
-ghost use Prim.Native.Nat.{ℕ, _+_, _*_, _≤_, _<_};
+ghost use Prim.Native.Nat.{ℕ, _+_, _-_, _*_, _≤_, _<_};
 ghost use mathlib.Core.List.{flatMap};
 ghost use lib.ListN.{length};
 ghost use Rattle.format.specs.Strip.{encode};
@@ -33,6 +33,13 @@ pub struct Listed {
 pub struct Lsa {
     pub length: usize,
     pub tail: usize,
+}
+
+// The number of bytes of a body from p on.
+pub fn bytes_from(body: &[u8], p: usize) -> usize
+    ensures { λ r. ⌜ r ≡ length (now (body .entry)) - p ⌝ }
+{
+    if p < body.len() { body.len() - p } else { 0 }
 }
 
 // The length of what `push_unparsed` writes, under any id and wherever the body lies.

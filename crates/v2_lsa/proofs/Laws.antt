@@ -33,44 +33,6 @@ pub none-of : (x : Option ℕ) (y : Fit) → y ≡ fitOf x → y ≡ Nothing →
 none-of (some m) y e h = let z : _≡_ {A = ℕ} 0 1 = cc in absurd (omega arith)
 none-of none y e h = refl
 
--- Two answers are the same where their parts are.
-pub same-decoded : {a a′ n n′ : ℕ} → a ≡ a′ → n ≡ n′ → Decoded a n ≡ Decoded a′ n′
-same-decoded e f = rw (e, f)
-
--- All bytes from n on are what `drop` leaves.
-pub to-the-end : (d : List ℕ) (n : ℕ) → take (length d - n) (drop n d) ≡ drop n d
-to-the-end d n = take-all (length d - n) (drop n d) (let l = length-drop n d in omega arith)
-
--- What is left of a body has room where the whole LSA has, and adds to its length.
-module _ (hs : List Entry) (r u : ℕ) (x : body.Body) (b : List ℕ) (o : ℕ) (y : Body) where
-  pub room-decoded : (a₀ : ℕ) {a₁ m : ℕ} (a n : ℕ) → y ≡ pushedOf a₁ x → y ≡ Decoded a n → a₁ ≡ a₀ + length (encode hs)
-      → a₀ + length (encode (hs ++ bodyEntries r u x b o)) ≤ m → a + length (encode (leftover u b o n)) ≤ m
-  room-decoded a₀ {a₁ = a₁} a n p e h l =
-      let d = pushed-is-decoded x a₁ a n y p e in
-      let q = rw (d .1 r u b o) at (length-lsa hs r u x b o) in
-      omega (arith, d .0)
-
-  pub room-raw : (a₀ : ℕ) {a₁ m : ℕ} → y ≡ pushedOf a₁ x → y ≡ Raw → a₁ ≡ a₀ + length (encode hs)
-      → a₀ + length (encode (hs ++ bodyEntries r u x b o)) ≤ m → a₁ + length (encode (leftover r b o 0)) ≤ m
-  room-raw a₀ {a₁ = a₁} p e h l =
-      let d = pushed-is-raw x a₁ y p e in
-      let q = rw (d .1 r u b o, d .0) at (length-lsa hs r u x b o) in
-      omega arith
-
-  pub length-decoded : (a n : ℕ) → y ≡ measuredOf x → y ≡ Decoded a n
-      → length (encode hs) + a + length (encode (leftover u b o n)) ≡ length (encode (hs ++ bodyEntries r u x b o))
-  length-decoded a n p e =
-      let d = measured-is-decoded x a n y p e in
-      let q = rw (d .2 r u b o) at (length-lsa hs r u x b o) in
-      omega (arith, d .0)
-
-  pub length-raw : y ≡ measuredOf x → y ≡ Raw
-      → length (encode hs) + length (encode (leftover r b o 0)) ≡ length (encode (hs ++ bodyEntries r u x b o))
-  length-raw p e =
-      let d = measured-is-raw x y p e in
-      let q = rw (d .2 r u b o, d .0) at (length-lsa hs r u x b o) in
-      omega arith
-
 -- A link that stands lies in the body, and is as long as its TOS metrics make it.
 pub link-inside : (b : List ℕ) (p n : ℕ) → linkRule b p ≡ some n → (p + n ≤ length b) × (n ≡ 12 + getD b (p + 9) 0 * 4)
 link-inside b p n e =

@@ -16,6 +16,7 @@ use body::Body;
 use body::Listed;
 use body::Lsa;
 use body::measure_attached_routers;
+use body::bytes_from;
 use body::measure_unparsed;
 use header::LsaHeader;
 use header::v2::measure_lsa_header_fields;
@@ -49,7 +50,7 @@ pub fn measure_lsa(lsa: &[u8]) -> Lsa
             let rest = measure_unparsed(body, consumed);
             Lsa {
                 length: fields + at + rest,
-                tail: tail_length(body, consumed),
+                tail: bytes_from(body, consumed),
             }
         }
         Body::Raw => {
@@ -60,14 +61,6 @@ pub fn measure_lsa(lsa: &[u8]) -> Lsa
             }
         }
     }
-}
-
-// The number of bytes of a body from p on.
-fn tail_length(body: &[u8], p: usize) -> usize
-    ensures { λ r. ⌜ r ≡ length (now (body .entry)) - p ⌝ }
-{
-    let n = body.len();
-    if p < n { n - p } else { 0 }
 }
 
 fn measure_body(ls_type: u8, opaque_type: u8, body: &[u8]) -> Body

@@ -21,20 +21,12 @@ use Rattle.body.specs.declared.Body.{Body}
 use Rattle.body.specs.declared.Body.the-variants.{Decoded}
 use Rattle.v3_lsa.specs.Fits.{fixedPrefixFits}
 
--- What follows the first n bytes.
-pub the-rest : (d : List ℕ) (n : ℕ) → take (length d - n) (drop n d) ≡ drop n d
-the-rest d n = take-all (length d - n) (drop n d) (omega (arith, length-drop n d))
-
 -- Entries before those of a body.
 pub pushed-after : {l₀ l₁ l₂ : List ℕ} {a₀ a₁ : ℕ} {r : Body} (es fs : List Entry) (n : ℕ)
     → Wrote l₀ a₀ (encode es) l₁ a₁ → Pushed (decoded fs n) l₁ a₁ l₂ r → Pushed (decoded (es ++ fs) n) l₀ a₀ l₂ r
 pushed-after {l₀} {l₁} {l₂} {a₀} {a₁} es fs n v p =
     let w : Wrote l₁ a₁ (encode fs) l₂ (a₁ + length (encode fs)) = record { place = refl; contents = p .contents } in
     rw (p .answer) (pushed-decoded (es ++ fs) n n refl (rw (encode-append es fs) (then v w)))
-
--- The answer for a decoded body that is only measured.
-pub measured : {a b m n : ℕ} → a ≡ b → m ≡ n → Decoded a m ≡ Decoded b n
-measured p q = rw (p, q)
 
 -- A body with one prefix is decoded where the prefix fits.
 module _ (b : List ℕ) (o : ℕ) where

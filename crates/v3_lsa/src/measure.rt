@@ -25,6 +25,7 @@ use body::Body;
 use body::Listed;
 use body::Lsa;
 use body::measure_attached_routers;
+use body::bytes_from;
 use body::measure_unparsed;
 use header::LsaHeader;
 use header::v3::measure_lsa_header_fields;
@@ -91,13 +92,6 @@ pub fn measure_lsa(lsa: &[u8]) -> Lsa
             tail: 0,
         },
     }
-}
-
-// The number of bytes from p to the end of a body.
-fn bytes_from(body: &[u8], p: usize) -> usize
-    ensures { λ r. ⌜ r ≡ length (now (body .entry)) - p ⌝ }
-{
-    if p < body.len() { body.len() - p } else { 0 }
 }
 
 fn measure_body(function: u16, body: &[u8]) -> Body

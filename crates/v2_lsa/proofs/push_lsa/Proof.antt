@@ -1,10 +1,9 @@
 use Prim.Native.Nat.{_+_}
 use lib.ListN.{drop, length-drop}
 use native.Mathlib.Omega.{arith}
-use Rattle.body.proofs.Laws.{length-lsa, lsa-decoded, lsa-raw}
+use Rattle.body.proofs.Laws.{length-lsa, lsa-decoded, lsa-raw, to-the-end, room-decoded, room-raw}
 use Rattle.format.specs.Header.{headerEntries2}
 use Rattle.format.specs.V2.{bodyOf2, lsaEntries2}
-use Rattle.v2_lsa.proofs.Laws.{to-the-end, room-decoded, room-raw}
 use borrow.Author.Needs.{needs}
 use Rattle.v2_lsa.proofs.push_lsa.Statement.{statement}
 use Rattle.v2_lsa.proofs.push_lsa.Tie as tie

@@ -7,9 +7,8 @@ use borrow.Author.Needs.{needs}
 use Rattle.format.specs.Header.{headerSize, headerEntries3}
 use Rattle.format.specs.Strip.{Entry, encode}
 use Rattle.format.specs.V3.{bodyOf3, lsaEntries3}
-use Rattle.body.proofs.Laws.{length-lsa, pushed-is-decoded, pushed-is-raw, lsa-decoded, lsa-raw}
+use Rattle.body.proofs.Laws.{length-lsa, pushed-is-decoded, pushed-is-raw, lsa-decoded, lsa-raw, to-the-end}
 use Rattle.body.specs.Answers.{pushedOf}
-use Rattle.v3_lsa.proofs.Bodies.{the-rest}
 use Rattle.v3_lsa.proofs.push_lsa.Statement.{statement}
 use Rattle.v3_lsa.proofs.push_lsa.Tie as tie
 
@@ -50,14 +49,14 @@ push-body-requires c κs =
     let o = s .args .o + headerSize in
     let l = length-lsa (headerEntries3 d (s .args .o)) 31 33 (bodyOf3 d (s .args .o)) b o in
     let m = length-drop headerSize d in
-    rw (c .before .before .function-code .ensures, the-rest d 20) (omega arith)
+    rw (c .before .before .function-code .ensures, to-the-end d 20) (omega arith)
 
 enum-known-b : tie.Need-enum-known-b
 enum-known-b c = search needs
 
 -- what `push_body` answers, of the definition
 answer : (c : tie.After-push-body) → c .push-body .result ≡ pushedOf (c .before .before .before .before .before .before .push-lsa-header .result) (bodyOf3 (c .before .before .before .before .before .before .before .before .before .before .args .lsa .now) (c .before .before .before .before .before .before .before .before .before .before .args .o))
-answer c = rw (c .before .before .before .function-code .ensures, the-rest (c .before .before .before .before .before .before .before .before .before .before .args .lsa .now) 20) at (c .push-body .ensures .answer)
+answer c = rw (c .before .before .before .function-code .ensures, to-the-end (c .before .before .before .before .before .before .before .before .before .before .args .lsa .now) 20) at (c .push-body .ensures .answer)
 
 push-unparsed-requires : tie.Need-push-unparsed-requires
 unfolding lsaEntries3
@@ -71,7 +70,7 @@ push-unparsed-requires c κs =
     let g = c .before .before .b .given in
     let x = pushed-is-decoded (bodyOf3 d (s .args .o)) _ (g .0 .0) (g .0 .1 .0) (c .before .before .before .before .before .before .push-body .result) (answer (c .before .before .before .before .before .before)) (g .1) in
     let k = ap (λ (es : List Entry). length (encode es)) (x .1 31 33 b o) in
-    rw (the-rest d 20) (omega arith)
+    rw (to-the-end d 20) (omega arith)
 
 enum-told : tie.Need-enum-told
 enum-told c = search needs
@@ -87,7 +86,7 @@ push-unparsed-requires-2 c κs =
     let m = length-drop headerSize d in
     let x = pushed-is-raw (bodyOf3 d (s .args .o)) _ (c .before .before .before .before .before .push-body .result) (answer (c .before .before .before .before .before)) (c .before .enum-told .given .1) in
     let k = ap (λ (es : List Entry). length (encode es)) (x .1 31 33 b o) in
-    rw (the-rest d 20) (omega arith)
+    rw (to-the-end d 20) (omega arith)
 
 same-length : tie.Need-same-length
 same-length c = search needs
@@ -97,7 +96,7 @@ unfolding lsaEntries3
 returns c =
     let s = c .before .before .before .before .before .before .before .before .before .before .before .before .before .before .before .before .before .before .before in
     let d = s .args .lsa .now in
-    let w = the-rest d 20 in
+    let w = to-the-end d 20 in
     let p = rw (c .before .before .before .before .before .before .before .before .before .before .before .before .function-code .ensures, w) at (c .before .before .before .before .before .before .before .before .before .push-body .ensures) in
     lsa-decoded (headerEntries3 d (s .args .o)) 31 33 (bodyOf3 d (s .args .o)) (drop headerSize d) (s .args .o + headerSize) (c .before .before .before .before .before .before .before .before .before .push-body .result) (c .before .before .before .before .before .before .before .before .before .before .before .before .before .before .before .push-lsa-header .ensures) p (c .before .before .before .before .before .b .given .1) (rw w at (c .before .before .push-unparsed .ensures))
 
@@ -109,7 +108,7 @@ unfolding lsaEntries3
 returns-2 c =
     let s = c .before .before .before .before .before .before .before .before .before .before .before .before .before .before .before .before .before .before in
     let d = s .args .lsa .now in
-    let w = the-rest d 20 in
+    let w = to-the-end d 20 in
     let p = rw (c .before .before .before .before .before .before .before .before .before .before .before .function-code .ensures, w) at (c .before .before .before .before .before .before .before .before .push-body .ensures) in
     lsa-raw (headerEntries3 d (s .args .o)) 31 33 (bodyOf3 d (s .args .o)) (drop headerSize d) (s .args .o + headerSize) (c .before .before .before .before .before .before .before .before .push-body .result) (c .before .before .before .before .before .before .before .before .before .before .before .before .before .before .push-lsa-header .ensures) p (c .before .before .before .before .enum-told .given .1) (rw w at (c .before .before .push-unparsed2 .ensures))
 

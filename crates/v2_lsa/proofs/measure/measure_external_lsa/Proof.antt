@@ -1,3 +1,4 @@
+use Rattle.body.proofs.Laws.{same-decoded}
 use lib.ListN.{length}
 use mathlib.Core.Path.{refl, sym}
 use borrow.Author.Tests.{lt-ltb, le-ltb}
@@ -6,7 +7,6 @@ use Rattle.format.proofs.Lists.{whole-count, whole-after}
 use Rattle.format.specs.Strip.{encode, code, container}
 use Rattle.format.specs.Body.{whole}
 use Rattle.format.specs.V2.{externalLsa2, externalTos}
-use Rattle.v2_lsa.proofs.Laws.{same-decoded}
 use borrow.Author.Needs.{needs}
 use Rattle.v2_lsa.proofs.measure.measure_external_lsa.Statement.{statement}
 use Rattle.v2_lsa.proofs.measure.measure_external_lsa.Tie as tie

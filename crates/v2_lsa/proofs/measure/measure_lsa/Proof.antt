@@ -2,11 +2,10 @@ use Prim.Native.Nat.{ℕ, _+_}
 use lib.ListN.{length, drop}
 use mathlib.Core.Path.{_≡_, sym, _∙_}
 use native.Mathlib.Omega.{arith}
-use Rattle.body.proofs.Laws.{measured-is-decoded, measured-is-raw}
+use Rattle.body.proofs.Laws.{measured-is-decoded, measured-is-raw, to-the-end, length-decoded, length-raw}
 use Rattle.format.specs.Strip.{encode}
 use Rattle.format.specs.Header.{headerEntries2}
 use Rattle.format.specs.V2.{bodyOf2, lsaEntries2, lsaTail2}
-use Rattle.v2_lsa.proofs.Laws.{to-the-end, length-decoded, length-raw}
 use Rattle.v2_lsa.proofs.Bounds.{lsa-bound}
 use borrow.Author.Needs.{needs}
 use Rattle.v2_lsa.proofs.measure.measure_lsa.Statement.{statement}
@@ -77,8 +76,8 @@ add-t18 c =
     let l = lsa-bound (c .before .before .before .before .before .before .before .before .before .before .args .lsa .now) 0 (c .before .before .before .before .before .before .before .before .before .before .pre .0) in
     omega arith
 
-tail-length-requires : tie.Need-tail-length-requires
-tail-length-requires c κs = search needs
+bytes-from-requires : tie.Need-bytes-from-requires
+bytes-from-requires c κs = search needs
 
 enum-told : tie.Need-enum-told
 enum-told c = search needs
@@ -99,7 +98,7 @@ returns c =
     let z = to-the-end d 20 in
     let m = rw z at (c .before .before .before .before .before .measure-body .ensures 20) in
     let t = measured-is-decoded (bodyOf2 d 0) _ _ _ m (c .before .before .before .measured .given .1) .1 (drop 20 d) in
-    (parsed (c .before), rw z at (c .tail-length .ensures) ∙ sym t)
+    (parsed (c .before), rw z at (c .bytes-from .ensures) ∙ sym t)
 
 returns-2 : tie.Need-returns-2
 unfolding lsaTail2
@@ -125,7 +124,7 @@ measure-lsa-spec =
     measure-unparsed-requires
     add-t17
     add-t18
-    tail-length-requires
+    bytes-from-requires
     enum-told
     measure-unparsed-requires-2
     add-t20

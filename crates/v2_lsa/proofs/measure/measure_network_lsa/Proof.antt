@@ -1,3 +1,4 @@
+use Rattle.body.proofs.Laws.{same-decoded}
 use lib.ListN.{length}
 use mathlib.Core.Path.{refl}
 use borrow.Author.Tests.{lt-ltb, le-ltb}
@@ -6,7 +7,6 @@ use Rattle.format.proofs.Lists.{length-whole}
 use Rattle.format.specs.Strip.{encode, code}
 use Rattle.format.specs.Body.{attachedRouter}
 use Rattle.format.specs.V2.{networkLsa2}
-use Rattle.v2_lsa.proofs.Laws.{same-decoded}
 use borrow.Author.Needs.{needs}
 use Rattle.v2_lsa.proofs.measure.measure_network_lsa.Statement.{statement}
 use Rattle.v2_lsa.proofs.measure.measure_network_lsa.Tie as tie

@@ -1,3 +1,4 @@
+use Rattle.body.proofs.Laws.{same-decoded}
 use borrow.Author.Needs.{needs}
 use lib.ListN.{length}
 use borrow.Author.Tests.{lt-ltb, le-ltb}
@@ -6,7 +7,6 @@ use Rattle.format.proofs.Lists.{length-listing}
 use Rattle.format.proofs.Loop.{spread}
 use Rattle.format.specs.Strip.{encode, code}
 use Rattle.format.specs.V2.{routerLsa2, link, links}
-use Rattle.v2_lsa.proofs.Laws.{same-decoded}
 use Rattle.v2_lsa.proofs.measure.measure_router_lsa.Statement.{statement}
 use Rattle.v2_lsa.proofs.measure.measure_router_lsa.Tie as tie
 

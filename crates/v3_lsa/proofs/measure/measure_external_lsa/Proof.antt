@@ -1,3 +1,4 @@
+use Rattle.body.proofs.Laws.{same-decoded}
 use native.Mathlib.Omega.{arith}
 use mathlib.Core.Option.{some}
 use mathlib.Core.Path.{_≡_}
@@ -6,7 +7,7 @@ use borrow.Author.Needs.{needs}
 use Rattle.format.specs.Strip.{encode, code}
 use Rattle.format.specs.V3.{hasForwarding, hasTag, hasReference}
 use Rattle.v3_lsa.specs.Fits.{fixedPrefixFits}
-use Rattle.v3_lsa.proofs.Bodies.{measured, external-raw, external-short, external-decoded}
+use Rattle.v3_lsa.proofs.Bodies.{external-raw, external-short, external-decoded}
 use Rattle.v3_lsa.proofs.Fits.{some-of, none-of, fits-inside}
 use Rattle.v3_lsa.proofs.Lengths.{at-most, length-optional}
 use Rattle.v3_lsa.proofs.measure.measure_external_lsa.Statement.{statement}
@@ -55,7 +56,7 @@ returns-3 : tie.Need-returns-3
 unfolding encode code
 returns-3 c = λ o.
     let q = c .measure-external-optional .ensures o (c .before .before .before .before .n .given .0 .0) in
-    rw (external-decoded (c .before .before .before .before .before .before .before .before .args .body .now) o _ (fits (c .before .before .before)) (omega arith)) (measured (omega arith) (c .before .before .external-end .ensures))
+    rw (external-decoded (c .before .before .before .before .before .before .before .before .args .body .now) o _ (fits (c .before .before .before)) (omega arith)) (same-decoded (omega arith) (c .before .before .external-end .ensures))
 
 pub measure-external-lsa-spec : {M : Type 1} → statement M
 measure-external-lsa-spec =

@@ -1,3 +1,4 @@
+use Rattle.body.proofs.Laws.{same-decoded}
 use native.Mathlib.Omega.{arith}
 use mathlib.Core.Bool.{true}
 use lib.ListN.{length}
@@ -7,7 +8,6 @@ use Rattle.format.specs.Cut.{cut, prefixRule}
 use Rattle.format.specs.Strip.{encode, code}
 use Rattle.format.specs.V3.{prefix, intraAreaPrefixLsa}
 use Rattle.format.proofs.Lists.{length-listing}
-use Rattle.v3_lsa.proofs.Bodies.{measured}
 use Rattle.v3_lsa.proofs.Bounds.{prefixes-bound}
 use Rattle.v3_lsa.proofs.measure.measure_intra_area_prefix_lsa.Statement.{statement}
 use Rattle.v3_lsa.proofs.measure.measure_intra_area_prefix_lsa.Tie as tie
@@ -43,7 +43,7 @@ returns-2 c =
     let k = c .before .measure-prefixes .ensures in
     λ o.
     let e = rw (c .before .before .read-be-u16 .ensures) at (k .0 o) in
-    rw (le-ltb (length (c .before .before .before .before .before .args .body .now)) 12 (omega arith)) (measured (omega arith) (rw (c .before .before .read-be-u16 .ensures) at (k .1)))
+    rw (le-ltb (length (c .before .before .before .before .before .args .body .now)) 12 (omega arith)) (same-decoded (omega arith) (rw (c .before .before .read-be-u16 .ensures) at (k .1)))
 
 pub measure-intra-area-prefix-lsa-spec : {M : Type 1} → statement M
 measure-intra-area-prefix-lsa-spec =

@@ -1,3 +1,4 @@
+use Rattle.body.proofs.Laws.{same-decoded}
 use native.Mathlib.Omega.{arith}
 use mathlib.Core.Bool.{false}
 use lib.ListN.{length}
@@ -7,7 +8,6 @@ use Rattle.format.specs.Cut.{cut, prefixRule}
 use Rattle.format.specs.Strip.{encode, code}
 use Rattle.format.specs.V3.{prefix, linkLsa}
 use Rattle.format.proofs.Lists.{length-listing}
-use Rattle.v3_lsa.proofs.Bodies.{measured}
 use Rattle.v3_lsa.proofs.Bounds.{prefixes-bound}
 use Rattle.v3_lsa.proofs.measure.measure_link_lsa.Statement.{statement}
 use Rattle.v3_lsa.proofs.measure.measure_link_lsa.Tie as tie
@@ -46,7 +46,7 @@ returns-2 c =
     let k = c .before .measure-prefixes .ensures in
     λ o.
     let e = rw (c .before .before .read-be-u32 .ensures) at (k .0 o) in
-    rw (le-ltb (length (c .before .before .before .before .before .args .body .now)) 24 (omega arith)) (measured (omega arith) (rw (c .before .before .read-be-u32 .ensures) at (k .1)))
+    rw (le-ltb (length (c .before .before .before .before .before .args .body .now)) 24 (omega arith)) (same-decoded (omega arith) (rw (c .before .before .read-be-u32 .ensures) at (k .1)))
 
 pub measure-link-lsa-spec : {M : Type 1} → statement M
 measure-link-lsa-spec =

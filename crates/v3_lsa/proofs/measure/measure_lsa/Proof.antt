@@ -7,9 +7,8 @@ use borrow.Author.Needs.{needs}
 use Rattle.format.specs.Header.{headerSize, headerEntries3}
 use Rattle.format.specs.Strip.{Entry, encode, code}
 use Rattle.format.specs.V3.{functionCode, bodyOf3, lsaEntries3, lsaTail3}
-use Rattle.body.proofs.Laws.{length-lsa, measured-is-decoded, measured-is-raw}
+use Rattle.body.proofs.Laws.{length-lsa, measured-is-decoded, measured-is-raw, to-the-end}
 use Rattle.body.specs.Answers.{measuredOf}
-use Rattle.v3_lsa.proofs.Bodies.{the-rest}
 use Rattle.v3_lsa.proofs.Bounds.{body-bound}
 use Rattle.format.proofs.Bounds.{leftover-bound}
 use Rattle.v3_lsa.proofs.measure.measure_lsa.Statement.{statement}
@@ -41,7 +40,7 @@ measure-unparsed-requires c κs = search needs
 
 -- the body's answer, of the definition
 answer : (c : tie.After-measure-body) (o : ℕ) → c .measure-body .result ≡ measuredOf (bodyOf3 (c .before .before .before .before .before .args .lsa .now) o)
-answer c o = rw (c .before .before .function-code .ensures, the-rest (c .before .before .before .before .before .args .lsa .now) 20) at (c .measure-body .ensures (o + headerSize))
+answer c o = rw (c .before .before .function-code .ensures, to-the-end (c .before .before .before .before .before .args .lsa .now) 20) at (c .measure-body .ensures (o + headerSize))
 
 add-t13 : tie.Need-add-t13
 unfolding headerEntries3 encode code
@@ -94,7 +93,7 @@ unfolding lsaEntries3 lsaTail3
 returns c =
     let d = c .before .before .before .before .before .before .before .before .before .before .args .lsa .now in
     let b = drop headerSize d in
-    let w = the-rest d 20 in
+    let w = to-the-end d 20 in
     let g = c .before .before .before .at .given in
     let r = c .before .before .before .before .before .measure-body .result in (
       λ o.
@@ -112,7 +111,7 @@ unfolding lsaEntries3 lsaTail3
 returns-2 c =
     let d = c .before .before .before .before .before .before .before .before .args .lsa .now in
     let b = drop headerSize d in
-    let w = the-rest d 20 in
+    let w = to-the-end d 20 in
     let r = c .before .before .before .measure-body .result in
     let g = c .before .enum-told .given .1 in (
       λ o.

@@ -1,3 +1,4 @@
+use Rattle.body.proofs.Laws.{same-decoded}
 use native.Mathlib.Omega.{arith}
 use mathlib.Core.Path.{refl}
 use lib.ListN.{length}
@@ -7,7 +8,6 @@ use Rattle.format.specs.Body.{attachedRouter}
 use Rattle.format.specs.Strip.{encode, code}
 use Rattle.format.specs.V3.{networkLsa3}
 use Rattle.format.proofs.Lists.{length-whole}
-use Rattle.v3_lsa.proofs.Bodies.{measured}
 use Rattle.v3_lsa.proofs.measure.measure_network_lsa.Statement.{statement}
 use Rattle.v3_lsa.proofs.measure.measure_network_lsa.Tie as tie
 
@@ -32,7 +32,7 @@ returns-2 c =
     let k = c .before .measure-attached-routers .ensures in
     λ o.
     let e = k .0 16 o in
-    rw (le-ltb (length (c .before .before .before .before .args .body .now)) 4 (omega arith)) (measured (omega arith) (k .1))
+    rw (le-ltb (length (c .before .before .before .before .args .body .now)) 4 (omega arith)) (same-decoded (omega arith) (k .1))
 
 pub measure-network-lsa-spec : {M : Type 1} → statement M
 measure-network-lsa-spec =

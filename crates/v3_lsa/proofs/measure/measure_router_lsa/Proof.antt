@@ -1,3 +1,4 @@
+use Rattle.body.proofs.Laws.{same-decoded}
 use native.Mathlib.Omega.{arith}
 use mathlib.Core.Path.{refl, sym}
 use lib.ListN.{length}
@@ -6,7 +7,6 @@ use borrow.Author.Tests.{lt-ltb, le-ltb}
 use Rattle.format.specs.Strip.{container, encode, code}
 use Rattle.format.specs.V3.{routerLsa3, link}
 use Rattle.format.proofs.Lists.{whole-after, length-whole}
-use Rattle.v3_lsa.proofs.Bodies.{measured}
 use Rattle.v3_lsa.proofs.measure.measure_router_lsa.Statement.{statement}
 use Rattle.v3_lsa.proofs.measure.measure_router_lsa.Tie as tie
 
@@ -41,7 +41,7 @@ returns-2 c =
     let b = c .before .args .body .now in
     λ o.
     let l = length-whole 16 b 4 (omega arith) 15 (link b o) o 76 (λ s. refl) in
-    rw (le-ltb (length b) 4 (omega arith)) (measured (omega arith) (sym (whole-after 16 b 4 (omega arith))))
+    rw (le-ltb (length b) 4 (omega arith)) (same-decoded (omega arith) (sym (whole-after 16 b 4 (omega arith))))
 
 pub measure-router-lsa-spec : {M : Type 1} → statement M
 measure-router-lsa-spec =
