@@ -63,7 +63,7 @@ fn measure_header(version: u8, header: &[u8]) -> usize
 
 // The length of the entries of so many header objects.
 fn measure_headers(version: u8, data: &[u8], count: usize) -> usize
-    requires { ⌜ count * 20 ≤ length (now «data») ⌝ }
+    requires { ⌜ count * headerSize ≤ length (now «data») ⌝ }
     requires { ⌜ length (now «data») ≤ maxData ⌝ }
     ensures { λ r. ⌜ ((o : ℕ) → r ≡ length (encode (flatMap (headerObject version (now («data» .entry)) o) (cut (fixedRule headerSize) (now («data» .entry)) count 0)))) ⌝ }
     ensures { λ r. ⌜ r ≤ count * 136 ⌝ }
@@ -85,7 +85,7 @@ fn write_headers(strip: &mut [u8], version: u8, data: &[u8], count: usize, o: u3
     requires { ⌜ length (encode (outer version (headerObject version (now «data») o) (now «data») o 0 (headers (now «data»)))) ≤ length (now strip) ⌝ }
     requires { ⌜ length (now «data») ≤ maxData ⌝ }
     requires { ⌜ o ≤ maxOffset ⌝ }
-    requires { ⌜ count ≡ length (now «data») / 20 ⌝ }
+    requires { ⌜ count ≡ length (now «data») / headerSize ⌝ }
     ensures { λ r. ⌜ Wrote (now (strip .entry)) 0 (encode (outer version (headerObject version (now («data» .entry)) o) (now («data» .entry)) o 0 (headers (now («data» .entry))))) (now (strip .exit)) r ⌝ }
 {
     let end = count * LsaHeader::SIZE;
@@ -104,7 +104,7 @@ fn push_headers(
     o: u32,
 ) -> usize
     requires { ⌜ at + length (encode (flatMap (headerObject version (now «data») o) (cut (fixedRule headerSize) (now «data») count 0))) ≤ length (now strip) ⌝ }
-    requires { ⌜ count * 20 ≤ length (now «data») ⌝ }
+    requires { ⌜ count * headerSize ≤ length (now «data») ⌝ }
     requires { ⌜ length (now «data») ≤ maxData ⌝ }
     requires { ⌜ o ≤ maxOffset ⌝ }
     ensures { λ r. ⌜ Wrote (now (strip .entry)) at (encode (flatMap (headerObject version (now («data» .entry)) o) (cut (fixedRule headerSize) (now («data» .entry)) count 0))) (now (strip .exit)) r ⌝ }
@@ -122,14 +122,14 @@ fn push_headers(
 
 // The object of the header at pos.
 fn push_header(strip: &mut [u8], at: usize, version: u8, data: &[u8], pos: usize, o: u32) -> usize
-    requires { ⌜ at + length (encode (headerObject version (now «data») o (record { at = pos; len = 20 }))) ≤ length (now strip) ⌝ }
-    requires { ⌜ pos + 20 ≤ length (now «data») ⌝ }
+    requires { ⌜ at + length (encode (headerObject version (now «data») o (record { at = pos; len = headerSize }))) ≤ length (now strip) ⌝ }
+    requires { ⌜ pos + headerSize ≤ length (now «data») ⌝ }
     requires { ⌜ o + length (now «data») < 4294967296 ⌝ }
-    ensures { λ r. ⌜ Wrote (now (strip .entry)) at (encode (headerObject version (now («data» .entry)) o (record { at = pos; len = 20 }))) (now (strip .exit)) r ⌝ }
+    ensures { λ r. ⌜ Wrote (now (strip .entry)) at (encode (headerObject version (now («data» .entry)) o (record { at = pos; len = headerSize }))) (now (strip .exit)) r ⌝ }
 {
     let q = pos + LsaHeader::SIZE;
     let start = o + pos as u32;
-    let a = begin_container(strip, at, HEADER, start, start + 20);
+    let a = begin_container(strip, at, HEADER, start, start + LsaHeader::SIZE as u32);
     let b = push_header_fields(strip, a, version, &data[pos..q], start);
     end_container(strip, b)
 }

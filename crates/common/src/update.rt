@@ -6,6 +6,7 @@ ghost use lib.ListN.{length};
 ghost use Rattle.format.specs.Strip.{encode};
 ghost use Rattle.format.specs.Wrote.{Wrote};
 ghost use Rattle.format.specs.Cut.{after, recordRule};
+ghost use Rattle.format.specs.Header.{headerSize};
 ghost use Rattle.format.specs.Walks.{maxData, maxOffset, lsaObject, lsas, updateOf, outer, answerOf, stripOf};
 ghost use Rattle.common.specs.Answers.{answered, fitOf};
 use crate::Answer;
@@ -161,7 +162,7 @@ fn push_lsa_object(
 ) -> usize
     requires { ⌜ at + length (encode (lsaObject version (now «data») o (record { at = pos; len = n }))) ≤ length (now strip) ⌝ }
     requires { ⌜ pos + n ≤ length (now «data») ⌝ }
-    requires { ⌜ 20 ≤ n ⌝ }
+    requires { ⌜ headerSize ≤ n ⌝ }
     requires { ⌜ o + length (now «data») < 4294967296 ⌝ }
     ensures { λ r. ⌜ Wrote (now (strip .entry)) at (encode (lsaObject version (now («data» .entry)) o (record { at = pos; len = n }))) (now (strip .exit)) r ⌝ }
 {

@@ -1,9 +1,12 @@
 //! The wrapper: growing the buffer, reading entries back, refusals.
 
+mod lines;
+
 use inputs::{Class, Input};
+use lines::line;
 use listing::hex;
 use oracle::Walk;
-use ospf_strip::{Buffer, Entry, Kind, Refusal, Strip, Value, walks};
+use ospf_strip::{Buffer, Kind, Refusal, Strip, walks};
 
 fn run<'b>(buffer: &'b mut Buffer, input: &Input) -> Result<Strip<'b>, Refusal> {
     let (version, data, offset) = (input.version, &input.data, input.offset);
@@ -12,21 +15,6 @@ fn run<'b>(buffer: &'b mut Buffer, input: &Input) -> Result<Strip<'b>, Refusal> 
         Walk::Update => buffer.lsu_lsas(version, data, input.count, offset),
         Walk::Lsa => buffer.lsa(version, data, offset),
     }
-}
-
-/// The line that document 01's program prints for an entry.
-fn line(entry: &Entry) -> String {
-    let word = ["open", "close", "u8", "u16", "u32", "ip4", "ip6", "bytes"];
-    let word = word[entry.kind() as usize - 1];
-    let Some((id, range)) = entry.id().zip(entry.range()) else {
-        return word.to_string();
-    };
-    let value = match entry.value() {
-        None => String::new(),
-        Some(Value::Ipv6(v)) => v.octets().iter().map(|b| format!("{b:02x}")).collect(),
-        Some(value) => value.to_string(),
-    };
-    format!("{word} {id} {} {} {value}", range.start, range.end)
 }
 
 /// Entries read back and written again by another program are the strip.

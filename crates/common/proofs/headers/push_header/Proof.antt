@@ -19,6 +19,9 @@ cast-start c = search needs
 add-start : tie.Need-add-start
 add-start c = search needs
 
+cast-begin-container : tie.Need-cast-begin-container
+cast-begin-container c = search needs
+
 add-begin-container : tie.Need-add-begin-container
 add-begin-container c = search needs
 
@@ -78,6 +81,7 @@ push-header-spec =
     add-q
     cast-start
     add-start
+    cast-begin-container
     add-begin-container
     begin-container-requires
     sub-push-header-fields

@@ -1,0 +1,6 @@
+-- Laws of the replay's definitions.
+pub mod Bytes
+pub mod Rule
+pub mod Agrees
+pub mod Turns
+pub mod Meaning

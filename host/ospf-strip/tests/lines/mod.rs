@@ -1,0 +1,20 @@
+//! Entries as text, for the tests.
+
+use ospf_strip::{Entry, Value};
+
+/// The line that document 01's program prints for an entry.
+pub fn line(entry: &Entry) -> String {
+    let word = ["open", "close", "u8", "u16", "u32", "ip4", "ip6", "bytes"];
+    let word = word[entry.kind() as usize - 1];
+    let Some((id, range)) = entry.id().zip(entry.range()) else {
+        return word.to_string();
+    };
+    let value = match entry.value() {
+        None => String::new(),
+        Some(Value::Ipv6(v)) => v.octets().iter().map(|b| format!("{b:02x}")).collect(),
+        Some(value) => value.to_string(),
+    };
+    format!("{word} {id} {} {} {value}", range.start, range.end)
+        .trim_end()
+        .to_string()
+}
