@@ -84,7 +84,7 @@ def readers():
 
 
 def step(s, p):
-    """One line for the step at a place, and the next place if there is an entry."""
+    """What is printed for the step at a place, and the next place if there is an entry."""
     if p > len(s):
         return "refused 6", None
     if p == len(s):
@@ -101,8 +101,11 @@ def step(s, p):
         words += [str(x) for x in struct.unpack(">BII", s[p + 1:p + 10])]
     if value:
         (v,) = struct.unpack(">" + value, s[p + 10:q])
-        words.append(v.hex() if isinstance(v, bytes) else str(v))
-    return " ".join(words + ["next", str(q)]), q
+        if kind == 6:
+            words.append(".".join(str(x) for x in s[p + 10:q]))
+        else:
+            words.append(v.hex() if isinstance(v, bytes) else str(v))
+    return " ".join(words) + f"\nnext {q}", q
 
 
 def print_strip(s):

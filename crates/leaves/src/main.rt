@@ -4,7 +4,6 @@ mod newness;
 mod prefixes;
 mod readers;
 mod strips;
-mod text;
 
 fn main() {
     prefixes::run();

@@ -1,10 +1,10 @@
 // Newness around MaxAge, around MaxAgeDiff and around the sign of the sequence number.
-use crate::text::line;
-use crate::text::number;
-use crate::text::word;
 use header::LsaHeader;
 use header::Newness;
 use header::newer;
+use text::line;
+use text::number;
+use text::word;
 
 pub fn run() {
     sequences();

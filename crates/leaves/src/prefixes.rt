@@ -1,7 +1,7 @@
 // Octets of every prefix length, and comparisons.
-use crate::text::line;
-use crate::text::number;
-use crate::text::word;
+use text::line;
+use text::number;
+use text::word;
 use tlv::Comparison;
 use tlv::Prefix;
 use tlv::PrefixOctets;

@@ -1,8 +1,8 @@
 // The readers, at both ends of a slice.
-use crate::text::line;
-use crate::text::number;
-use crate::text::word;
 use header::LsaHeader;
+use text::line;
+use text::number;
+use text::word;
 use util::read_be_u16;
 use util::read_be_u24;
 use util::read_be_u32;

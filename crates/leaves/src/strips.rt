@@ -2,10 +2,7 @@
 ghost use mathlib.Core.Path.{_≡_};
 ghost use Prim.Native.Nat.{_+_, _≤_};
 ghost use lib.ListN.{length};
-use crate::text::hex;
-use crate::text::line;
-use crate::text::number;
-use crate::text::word;
+use print::lines::entry_line;
 use strip::push::begin_container;
 use strip::push::end_container;
 use strip::push::push_bit_at;
@@ -28,6 +25,9 @@ use strip::push::push_wide16_at;
 use strip::step::Entry;
 use strip::step::Step;
 use strip::step::step_at;
+use text::line;
+use text::number;
+use text::word;
 
 pub fn run() {
     let mut strip = [0u8; 98];
@@ -135,7 +135,7 @@ fn print_step(strip: &[u8], place: usize) {
     match step {
         Step::Entry(entry, next) => {
             print_entry(entry);
-            word(b" next");
+            word(b"next");
             number(next as u64);
         }
         Step::End => word(b"end"),
@@ -148,74 +148,7 @@ fn print_step(strip: &[u8], place: usize) {
 }
 
 fn print_entry(entry: Entry) {
-    match entry {
-        Entry::Open { id, start, end } => {
-            word(b"open");
-            range(id, start, end);
-        }
-        Entry::Close => word(b"close"),
-        Entry::U8 {
-            id,
-            start,
-            end,
-            value,
-        } => {
-            word(b"u8");
-            range(id, start, end);
-            number(value as u64);
-        }
-        Entry::U16 {
-            id,
-            start,
-            end,
-            value,
-        } => {
-            word(b"u16");
-            range(id, start, end);
-            number(value as u64);
-        }
-        Entry::U32 {
-            id,
-            start,
-            end,
-            value,
-        } => {
-            word(b"u32");
-            range(id, start, end);
-            number(value as u64);
-        }
-        Entry::Ipv4 {
-            id,
-            start,
-            end,
-            address,
-        } => {
-            word(b"ip4");
-            range(id, start, end);
-            number(address as u64);
-        }
-        Entry::Ipv6 {
-            id,
-            start,
-            end,
-            high,
-            low,
-        } => {
-            word(b"ip6");
-            range(id, start, end);
-            word(b" ");
-            hex(high);
-            hex(low);
-        }
-        Entry::Bytes { id, start, end } => {
-            word(b"bytes");
-            range(id, start, end);
-        }
-    }
-}
-
-fn range(id: u8, start: u32, end: u32) {
-    number(id as u64);
-    number(start as u64);
-    number(end as u64);
+    let mut out = [0u8; 160];
+    let n = entry_line(&mut out, entry);
+    word(&out[..n]);
 }

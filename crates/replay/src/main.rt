@@ -4,7 +4,6 @@ mod buffers;
 mod compare;
 mod stored;
 mod tally;
-mod text;
 
 use buffers::FILE;
 use buffers::ROOM;

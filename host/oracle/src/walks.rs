@@ -110,7 +110,7 @@ impl Call<'_> {
     }
 
     /// Calls the reference, as its callers in `v2.rs` and `v3.rs` do.
-    pub(crate) fn record(&self) -> DissectBuffer<'_> {
+    pub fn record(&self) -> DissectBuffer<'_> {
         let mut buf = DissectBuffer::new();
         let reference = Reference::of(self.version);
         let offset = self.offset as usize;

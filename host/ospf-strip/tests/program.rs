@@ -7,6 +7,7 @@ use inputs::{Class, Input};
 use lines::line;
 use oracle::{Call, Outcome, Walk};
 use ospf_strip::Buffer;
+use std::fs;
 use std::io::{ErrorKind, Write};
 use std::path::Path;
 use std::process::{Command, Stdio};
@@ -97,6 +98,27 @@ fn generated_inputs_are_printed() {
         });
     }
     assert!(compared > 200, "{compared}");
+}
+
+/// Beside each example stands what is printed for it.
+#[test]
+fn examples_are_printed() {
+    let directory = Path::new(env!("CARGO_MANIFEST_DIR")).join("../../examples");
+    let mut compared = 0;
+    for file in fs::read_dir(directory).unwrap() {
+        let path = file.unwrap().path();
+        if path.extension().is_some_and(|e| e == "bin") {
+            let text = fs::read_to_string(path.with_extension("txt")).unwrap();
+            assert_eq!(
+                printed(&fs::read(&path).unwrap()),
+                text,
+                "{}",
+                path.display()
+            );
+            compared += 1;
+        }
+    }
+    assert!(compared >= 4, "{compared}");
 }
 
 /// The program's own refusals, and the largest input.
