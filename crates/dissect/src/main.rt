@@ -1,7 +1,7 @@
 // The program: reads version, walk and data from standard input, and prints the strip's entries, a line each.
 use print::lines::answer_line;
 use print::lines::entry_line;
-use print::run::run;
+use program::run;
 use reader::step_from;
 use strip::step::Step;
 

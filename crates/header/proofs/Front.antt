@@ -1,59 +1,47 @@
 -- A header's entries are those of an LSA's first bytes, whatever follows.
-use Prim.Native.Nat.{ℕ}
+use Prim.Native.Nat.{ℕ, _+_, _≤_}
 use native.Mathlib.Omega.{arith}
 use mathlib.Core.Path.{_≡_}
 use mathlib.Core.List.{List}
 use lib.ListN.{getD, take}
 use lib.Seq.{getD-take}
+use Rattle.format.specs.Bytes.{be16At, be32At}
 use Rattle.format.specs.Header.{headerSize, headerEntries2, headerEntries3}
 
-module _ (d : List ℕ) (o : ℕ) where
-  pub front2 : headerEntries2 (take headerSize d) o ≡ headerEntries2 d o
+module _ (d : List ℕ) where
+  byte : (p : ℕ) → p + 1 ≤ headerSize → getD (take headerSize d) p 0 ≡ getD d p 0
+  byte p h = getD-take headerSize d p 0 (omega arith)
+
+  two : (p : ℕ) → p + 2 ≤ headerSize → be16At (take headerSize d) p ≡ be16At d p
+  two p h = rw (byte p (omega arith), byte (p + 1) (omega arith))
+
+  four : (p : ℕ) → p + 4 ≤ headerSize → be32At (take headerSize d) p ≡ be32At d p
+  four p h = rw (two p (omega arith), two (p + 2) (omega arith))
+
+  pub front2 : (o : ℕ) → headerEntries2 (take headerSize d) o ≡ headerEntries2 d o
   unfolding headerEntries2
-  front2 = rw (
-    getD-take 20 d 0 0 (omega arith),
-    getD-take 20 d 1 0 (omega arith),
-    getD-take 20 d 2 0 (omega arith),
-    getD-take 20 d 3 0 (omega arith),
-    getD-take 20 d 4 0 (omega arith),
-    getD-take 20 d 5 0 (omega arith),
-    getD-take 20 d 6 0 (omega arith),
-    getD-take 20 d 7 0 (omega arith),
-    getD-take 20 d 8 0 (omega arith),
-    getD-take 20 d 9 0 (omega arith),
-    getD-take 20 d 10 0 (omega arith),
-    getD-take 20 d 11 0 (omega arith),
-    getD-take 20 d 12 0 (omega arith),
-    getD-take 20 d 13 0 (omega arith),
-    getD-take 20 d 14 0 (omega arith),
-    getD-take 20 d 15 0 (omega arith),
-    getD-take 20 d 16 0 (omega arith),
-    getD-take 20 d 17 0 (omega arith),
-    getD-take 20 d 18 0 (omega arith),
-    getD-take 20 d 19 0 (omega arith),
+  front2 o = rw (
+    two 0 (omega arith),
+    byte 2 (omega arith),
+    byte 3 (omega arith),
+    four 4 (omega arith),
+    four 8 (omega arith),
+    four 12 (omega arith),
+    two 16 (omega arith),
+    two 18 (omega arith),
+    byte 4 (omega arith),
+    byte 5 (omega arith),
+    two 6 (omega arith),
   )
 
-  pub front3 : headerEntries3 (take headerSize d) o ≡ headerEntries3 d o
+  pub front3 : (o : ℕ) → headerEntries3 (take headerSize d) o ≡ headerEntries3 d o
   unfolding headerEntries3
-  front3 = rw (
-    getD-take 20 d 0 0 (omega arith),
-    getD-take 20 d 1 0 (omega arith),
-    getD-take 20 d 2 0 (omega arith),
-    getD-take 20 d 3 0 (omega arith),
-    getD-take 20 d 4 0 (omega arith),
-    getD-take 20 d 5 0 (omega arith),
-    getD-take 20 d 6 0 (omega arith),
-    getD-take 20 d 7 0 (omega arith),
-    getD-take 20 d 8 0 (omega arith),
-    getD-take 20 d 9 0 (omega arith),
-    getD-take 20 d 10 0 (omega arith),
-    getD-take 20 d 11 0 (omega arith),
-    getD-take 20 d 12 0 (omega arith),
-    getD-take 20 d 13 0 (omega arith),
-    getD-take 20 d 14 0 (omega arith),
-    getD-take 20 d 15 0 (omega arith),
-    getD-take 20 d 16 0 (omega arith),
-    getD-take 20 d 17 0 (omega arith),
-    getD-take 20 d 18 0 (omega arith),
-    getD-take 20 d 19 0 (omega arith),
+  front3 o = rw (
+    two 0 (omega arith),
+    two 2 (omega arith),
+    four 4 (omega arith),
+    four 8 (omega arith),
+    four 12 (omega arith),
+    two 16 (omega arith),
+    two 18 (omega arith),
   )

@@ -1,17 +1,20 @@
 -- How numbers are written, digit by digit, and how long they and the lines are.
 use Prim.Native.Nat.{ℕ, zero, suc, _+_, _-_, _/_, _%_, _≤_, _<_}
 use native.Mathlib.Omega.{arith}
-use mathlib.Core.Path.{_≡_, refl}
+use mathlib.Core.Path.{_≡_, refl, sym}
 use mathlib.Core.Bool.{Bool, true, false, cond}
 use mathlib.Core.List.{List, [], _∷_, _++_}
-use lib.ListN.{length, length-append}
+use lib.ListN.{length, take, length-append}
+use lib.Seq.{length-take-le}
 use lib.Dec.{ltb, eqb}
 use borrow.Author.Tests.{lt-ltb, le-ltb}
 use Rattle.format.specs.Strip.{Entry}
 use Rattle.format.specs.Strip.Entry.{opens, closes, u8, u16, u32, ip4, ip6, bytes}
+use Rattle.format.specs.Wrote.{Wrote}
 use Rattle.format.specs.Walks.{Answer}
 use Rattle.format.specs.Print.{digits, hexDigit, hex, spaced, dot, place, dotted, field, line, lineRoom, firstLine, newline}
 use Rattle.format.specs.Print.{openWord, u8Word, u16Word, u32Word, ip4Word, ip6Word, bytesWord, okWord, refusedWord}
+use Rattle.format.proofs.Wrote.{kept}
 
 pub digits-last : (n : ℕ) → digits 0 n ≡ (48 + n % 10) ∷ []
 unfolding digits
@@ -119,3 +122,11 @@ first-fits a = pick (eqb (a .number) 0)
         let q = length-append (spaced (a .number)) (spaced (a .size) ++ newline) in
         let r = length-append (spaced (a .size)) newline in
         omega arith
+
+-- A text that was written to the front can be lent by itself.
+pub lendable : {before after text : List ℕ} {r : ℕ} → Wrote before 0 text after r → length text ≤ lineRoom → lineRoom ≤ length before
+    → (r ≤ length after) × (r ≡ length (take r after))
+lendable {before} {after} {text} {r} w short long =
+    let k = kept w in
+    let h : r ≤ length after = omega (arith, w .place) in
+    (h, sym (length-take-le r after h))

@@ -1,4 +1,3 @@
-// The program on slices: what it makes of its input, and each line that it prints.
+// What the program prints: numbers and addresses as text, and each line.
 mod digits;
 pub mod lines;
-pub mod run;

@@ -10,7 +10,7 @@ use Rattle.io.proofs.large_buffer.Reads as large-buffer-reads
 use Rattle.io.proofs.read_full.Reads as read-full-reads
 use Rattle.io.proofs.write_all.Reads as write-all-reads
 use Rattle.print.proofs.lines.answer_line.Reads as answer-line-reads
-use Rattle.print.proofs.run.run.Reads as run-reads
+use Rattle.program.proofs.run.Reads as run-reads
 
 slice-aggregate-read-full : tie.Need-slice-aggregate-read-full
 slice-aggregate-read-full c = search needs

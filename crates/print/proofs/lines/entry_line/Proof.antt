@@ -1,7 +1,6 @@
 use native.Mathlib.Omega.{arith}
 use Rattle.print.specs.Text.{entryOf}
-use Rattle.print.proofs.Numerals.{line-fits}
-use Rattle.print.proofs.Room.{lendable}
+use Rattle.print.proofs.Numerals.{line-fits, lendable}
 use mathlib.Core.Path.{refl}
 use lib.ListN.{length}
 use Rattle.format.specs.Print.{lineRoom}

@@ -1,0 +1,21 @@
+use native.Mathlib.Omega.{arith}
+use lib.ListN.{length}
+use borrow.Author.Tests.{lt-ltb, le-ltb}
+use borrow.Author.Needs.{needs}
+use Rattle.program.proofs.count_of.Statement.{statement}
+use Rattle.program.proofs.count_of.Tie as tie
+use Rattle.program.proofs.count_of.Reads as reads
+use Rattle.program.proofs.count_of.Lts as lts
+use Rattle.util.proofs.read_be_u32.Reads as read-be-u32-reads
+
+returns : tie.Need-returns
+returns c = rw (lt-ltb (length (c .before .before .args .«data» .now)) 4 (omega arith))
+
+read-be-u32-requires : tie.Need-read-be-u32-requires
+read-be-u32-requires c κs = search needs
+
+returns-2 : tie.Need-returns-2
+returns-2 c = rw (le-ltb (length (c .before .before .before .args .«data» .now)) 4 (omega arith)) (c .read-be-u32 .ensures)
+
+pub count-of-spec : {M : Type 1} → statement M
+count-of-spec = tie.close (tie.spec returns read-be-u32-requires returns-2)

@@ -1,0 +1,94 @@
+use Rattle.program.proofs.Room.{strip-fits}
+use native.Mathlib.Omega.{arith}
+use mathlib.Core.Path.{refl}
+use Prim.Native.Nat.{_-_}
+use lib.ListN.{length, getD, drop, length-drop}
+use lib.Seq.{take-all}
+use Rattle.format.specs.Print.{maxInput, programOf}
+use Rattle.format.specs.Walks.{answerOf, stripOf}
+use borrow.Author.Tests.{lt-ltb, le-ltb, eq-eqb, ne-eqb}
+use borrow.Author.Needs.{needs}
+use Rattle.program.proofs.run.Statement.{statement}
+use Rattle.program.proofs.run.Tie as tie
+use Rattle.program.proofs.run.Reads as reads
+use Rattle.program.proofs.run.Lts as lts
+use Rattle.common.proofs.refused.Reads as refused-reads
+use Rattle.program.proofs.walk.Reads as walk-reads
+
+refused-requires : tie.Need-refused-requires
+refused-requires c κs = search needs
+
+returns : tie.Need-returns
+unfolding programOf answerOf stripOf
+returns c =
+    let n = length (c .before .before .before .before .args .input .now) in
+    rw (lt-ltb maxInput n (omega arith)) (c .refused .ensures, (refl, λ z. rw (c .refused .ensures) (omega arith)))
+
+refused-requires-2 : tie.Need-refused-requires-2
+refused-requires-2 c κs = search needs
+
+returns-2 : tie.Need-returns-2
+unfolding programOf answerOf stripOf
+returns-2 c =
+    let n = length (c .before .before .before .before .before .args .input .now) in
+    rw (le-ltb maxInput n (omega arith), lt-ltb n 2 (omega arith)) (c .refused2 .ensures, (refl, λ z. rw (c .refused2 .ensures) (omega arith)))
+
+shared-slice-read-if3 : tie.Need-shared-slice-read-if3
+shared-slice-read-if3 c = search needs
+
+refused-requires-3 : tie.Need-refused-requires-3
+refused-requires-3 c κs = search needs
+
+returns-3 : tie.Need-returns-3
+unfolding programOf answerOf stripOf
+returns-3 c =
+    let i = c .before .before .before .before .before .before .before .args .input .now in
+    rw (le-ltb maxInput (length i) (omega arith), le-ltb (length i) 2 (omega arith), lt-ltb 2 (getD i 1 0) (omega arith)) (c .refused3 .ensures, (refl, λ z. rw (c .refused3 .ensures) (omega arith)))
+
+shared-slice-read-walk : tie.Need-shared-slice-read-walk
+shared-slice-read-walk c = search needs
+
+shared-slice-read-walk-2 : tie.Need-shared-slice-read-walk-2
+shared-slice-read-walk-2 c = search needs
+
+sub-walk : tie.Need-sub-walk
+sub-walk c = search needs
+
+part-walk-start : tie.Need-part-walk-start
+part-walk-start c = search needs
+
+part-walk-end : tie.Need-part-walk-end
+part-walk-end c = search needs
+
+walk-requires : tie.Need-walk-requires
+walk-requires c κs = search needs
+
+same-length : tie.Need-same-length
+same-length c = search needs
+
+returns-4 : tie.Need-returns-4
+unfolding programOf
+returns-4 c =
+    let i = c .before .before .before .before .before .before .before .before .before .before .before .before .before .args .input .now in
+    let w = rw (take-all (length i - 2) (drop 2 i) (rw (length-drop 2 i) (omega arith))) at (c .before .before .walk .ensures) in
+    rw (le-ltb maxInput (length i) (omega arith), le-ltb (length i) 2 (omega arith), le-ltb 2 (getD i 1 0) (omega arith)) (w .0, (w .1, strip-fits _ _ _ _ (w .0) (w .1)))
+
+pub run-spec : {M : Type 1} → statement M
+run-spec =
+    tie.close
+    (tie.spec
+    refused-requires
+    returns
+    refused-requires-2
+    returns-2
+    shared-slice-read-if3
+    refused-requires-3
+    returns-3
+    shared-slice-read-walk
+    shared-slice-read-walk-2
+    sub-walk
+    part-walk-start
+    part-walk-end
+    walk-requires
+    same-length
+    returns-4)

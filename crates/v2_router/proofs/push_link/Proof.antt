@@ -1,0 +1,87 @@
+use native.Mathlib.Omega.{arith}
+use Rattle.format.proofs.Wrote.{then}
+use Rattle.format.proofs.Lists.{contained}
+use Rattle.format.proofs.Unique.{span}
+use Rattle.format.specs.Strip.{encode, code}
+use Rattle.format.specs.V2.{link}
+use Rattle.v2_router.proofs.Laws.{link-inside, length-link}
+use borrow.Author.Needs.{needs}
+use Rattle.v2_router.proofs.push_link.Statement.{statement}
+use Rattle.v2_router.proofs.push_link.Tie as tie
+
+cast-start : tie.Need-cast-start
+cast-start c =
+    let s = c .before .before in
+    let h = link-inside (s .args .body .now) (s .args .p) (s .args .n) (s .pre .1 .0) in
+    omega arith
+
+add-start : tie.Need-add-start
+add-start c =
+    let s = c .before .before in
+    let h = link-inside (s .args .body .now) (s .args .p) (s .args .n) (s .pre .1 .0) in
+    omega arith
+
+cast-begin-container : tie.Need-cast-begin-container
+cast-begin-container c =
+    let s = c .before .before .before in
+    let h = link-inside (s .args .body .now) (s .args .p) (s .args .n) (s .pre .1 .0) in
+    omega arith
+
+add-begin-container : tie.Need-add-begin-container
+add-begin-container c =
+    let s = c .before .before .before in
+    let h = link-inside (s .args .body .now) (s .args .p) (s .args .n) (s .pre .1 .0) in
+    omega arith
+
+begin-container-requires : tie.Need-begin-container-requires
+begin-container-requires c κs =
+    let s = c .before .before .before in
+    let h = link-inside (s .args .body .now) (s .args .p) (s .args .n) (s .pre .1 .0) in
+    let l = length-link (s .args .body .now) (s .args .o) (span (s .args .p) (s .args .n)) in
+    omega arith
+
+push-link-fields-requires : tie.Need-push-link-fields-requires
+unfolding code
+push-link-fields-requires c κs =
+    let s = c .before .before .before .before .before .before .before in
+    let h = link-inside (s .args .body .now) (s .args .p) (s .args .n) (s .pre .1 .0) in
+    let l = length-link (s .args .body .now) (s .args .o) (span (s .args .p) (s .args .n)) in
+    omega arith
+
+push-link-tos-metrics-requires : tie.Need-push-link-tos-metrics-requires
+unfolding encode code
+push-link-tos-metrics-requires c κs =
+    let s = c .before .before .before .before .before .before .before .before .before .before .before in
+    let h = link-inside (s .args .body .now) (s .args .p) (s .args .n) (s .pre .1 .0) in
+    let l = length-link (s .args .body .now) (s .args .o) (span (s .args .p) (s .args .n)) in
+    omega arith
+
+end-container-requires : tie.Need-end-container-requires
+unfolding encode code
+end-container-requires c κs =
+    let s = c .before .before .before .before .before .before .before .before .before .before .before .before .before .before .before in
+    let h = link-inside (s .args .body .now) (s .args .p) (s .args .n) (s .pre .1 .0) in
+    let l = length-link (s .args .body .now) (s .args .o) (span (s .args .p) (s .args .n)) in
+    omega arith
+
+same-length : tie.Need-same-length
+same-length c = search needs
+
+returns : tie.Need-returns
+unfolding link encode code
+returns c = contained 96 _ _ _ (c .before .before .before .before .before .before .before .before .before .before .before .before .before .before .begin-container .ensures) (then (c .before .before .before .before .before .before .before .before .before .before .push-link-fields .ensures) (c .before .before .before .before .before .before .push-link-tos-metrics .ensures)) (c .before .before .end-container .ensures)
+
+pub push-link-spec : {M : Type 1} → statement M
+push-link-spec =
+    tie.close
+    (tie.spec
+    cast-start
+    add-start
+    cast-begin-container
+    add-begin-container
+    begin-container-requires
+    push-link-fields-requires
+    push-link-tos-metrics-requires
+    end-container-requires
+    same-length
+    returns)

@@ -1,0 +1,83 @@
+use Prim.Native.Nat.{ℕ, _+_}
+use mathlib.Core.Path.{sym, ap}
+use native.Mathlib.Omega.{arith}
+use Rattle.format.proofs.Lists.{length-listing, listed-last}
+use Rattle.format.proofs.Loop.{spread}
+use Rattle.format.specs.Strip.{code}
+use Rattle.format.specs.V2.{link, links}
+use borrow.Author.Needs.{needs}
+use Rattle.v2_router.proofs.push_links_array.Statement.{statement}
+use Rattle.v2_router.proofs.push_links_array.Tie as tie
+
+read-be-u16-requires : tie.Need-read-be-u16-requires
+read-be-u16-requires c κs = search needs
+
+add-push-links : tie.Need-add-push-links
+add-push-links c = search needs
+
+push-links-requires : tie.Need-push-links-requires
+unfolding spread
+push-links-requires c κs =
+    let s = c .before .before .before .before in
+    let b = s .args .body .now in
+    let o = s .args .o in
+    let l = length-listing 16 (link b o) o 4 (links b) in
+    let count = c .before .read-be-u16 .ensures in
+    rw count (omega arith)
+
+add-begin-container : tie.Need-add-begin-container
+add-begin-container c = search needs
+
+cast-begin-container : tie.Need-cast-begin-container
+cast-begin-container c = search needs
+
+add-begin-container-2 : tie.Need-add-begin-container-2
+add-begin-container-2 c = search needs
+
+begin-container-requires : tie.Need-begin-container-requires
+unfolding spread
+begin-container-requires c κs =
+    let s = c .before .before .before .before .before .before .before .before in
+    let b = s .args .body .now in
+    let o = s .args .o in
+    let l = length-listing 16 (link b o) o 4 (links b) in
+    omega arith
+
+end-container-requires : tie.Need-end-container-requires
+unfolding spread code
+end-container-requires c κs =
+    let s = c .before .before .before .before .before .before .before .before .before .before .before .before in
+    let b = s .args .body .now in
+    let o = s .args .o in
+    let l = length-listing 16 (link b o) o 4 (links b) in
+    let count = c .before .before .before .before .before .before .before .before .before .read-be-u16 .ensures in
+    let w = rw count at (c .before .before .before .before .before .before .before .push-links .ensures .0) in
+    omega arith
+
+same-length : tie.Need-same-length
+same-length c = search needs
+
+returns : tie.Need-returns
+returns c =
+    let s = c .before .before .before .before .before .before .before .before .before .before .before .before .before .before .before in
+    let b = s .args .body .now in
+    let o = s .args .o in
+    let count = c .before .before .before .before .before .before .before .before .before .before .before .before .read-be-u16 .ensures in
+    let w = rw count at (c .before .before .before .before .before .before .before .before .before .before .push-links .ensures .0) in
+    let e = rw count at (c .before .before .before .before .before .before .before .before .before .before .push-links .ensures .1 .0) in
+    (listed-last 16 (link b o) o 4 (links b) (ap (λ (x : ℕ). o + x) (sym e)) w (c .before .before .before .before .before .before .begin-container .ensures) (c .before .before .end-container .ensures), e)
+
+pub push-links-array-spec : {M : Type 1} → statement M
+push-links-array-spec =
+    tie.close
+    (tie.spec
+    read-be-u16-requires
+    add-push-links
+    push-links-requires
+    add-begin-container
+    cast-begin-container
+    add-begin-container-2
+    begin-container-requires
+    end-container-requires
+    same-length
+    returns)

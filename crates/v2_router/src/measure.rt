@@ -1,0 +1,91 @@
+// The lengths of what `push_router_lsa` and the functions below it write, wherever the LSA lies, and of an array of TOS
+// metrics in any LSA.
+ghost use mathlib.Core.Path.{_≡_};
+ghost use mathlib.Core.List.{List, flatMap};
+ghost use Prim.Native.Nat.{ℕ, _+_, _*_, _≤_, _<_};
+ghost use lib.ListN.{length, getD};
+ghost use Rattle.format.specs.Strip.{Entry, encode};
+ghost use Rattle.format.specs.Cut.{Span, cut, after, linkRule};
+ghost use Rattle.format.specs.Body.{listingIfAny};
+ghost use Rattle.format.specs.V2.{link, routerLsa2};
+ghost use Rattle.body.specs.Answers.{measuredOf};
+use crate::Fit;
+use crate::link_fits;
+use body::Body;
+use body::Listed;
+use util::read_be_u16;
+
+// The lengths of entries by kind, and of a container without what is inside.
+pub const U8: usize = 11;
+
+const U16: usize = 12;
+
+pub const U32: usize = 14;
+
+pub const IPV4: usize = 14;
+
+pub const CONTAINER: usize = 11;
+
+pub fn measure_router_lsa(body: &[u8]) -> Body
+    requires { ⌜ length (now body) < 65536 ⌝ }
+    ensures { λ r. ⌜ ((o : ℕ) → r ≡ measuredOf (routerLsa2 (now (body .entry)) o)) ⌝ }
+{
+    if body.len() < 4 {
+        return Body::Raw;
+    }
+    let count = read_be_u16(body, 2);
+    let links = measure_links(body, count);
+    Body::Decoded {
+        at: U8 * 5 + U16 + CONTAINER + links.at,
+        consumed: links.end,
+    }
+}
+
+fn measure_links(body: &[u8], count: u16) -> Listed
+    requires { ⌜ 4 ≤ length (now body) ⌝ }
+    requires { ⌜ length (now body) < 65536 ⌝ }
+    ensures { λ r. ⌜ ((o : ℕ) → r .at ≡ length (encode (flatMap (link (now (body .entry)) o) (cut linkRule (now (body .entry)) count 4)))) ⌝ }
+    ensures { λ r. ⌜ r .end ≡ after 4 (cut linkRule (now (body .entry)) count 4) ⌝ }
+    ensures { λ r. ⌜ r .at ≤ 9 * length (now (body .entry)) ⌝ }
+{
+    let mut total: usize = 0;
+    let mut pos: usize = 4;
+    let mut left = count;
+    let end = loop {
+        if left == 0 {
+            break pos;
+        }
+        let Fit::Bytes(n) = link_fits(body, pos) else {
+            break pos;
+        };
+        total = total + measure_link(body, pos);
+        pos = pos + n;
+        left = left - 1;
+    };
+    Listed { at: total, end }
+}
+
+fn measure_link(body: &[u8], p: usize) -> usize
+    requires { ⌜ p + 12 + getD (now body) (p + 9) 0 * 4 ≤ length (now body) ⌝ }
+    requires { ⌜ length (now body) < 65536 ⌝ }
+    ensures { λ r. ⌜ ((o n : ℕ) → r ≡ length (encode (link (now (body .entry)) o (record { at = p; len = n })))) ⌝ }
+    ensures { λ r. ⌜ r ≤ 9 * (12 + getD (now (body .entry)) (p + 9) 0 * 4) ⌝ }
+{
+    let num_tos = body[p + 9] as usize;
+    let metrics = measure_tos_metrics(num_tos, CONTAINER + U8 + U32);
+    CONTAINER + IPV4 * 2 + U8 * 2 + U16 + metrics
+}
+
+// An array of TOS metrics, as many as the count and each of the same length, if there are any.
+pub fn measure_tos_metrics(count: usize, entry: usize) -> usize
+    requires { ⌜ count < 65536 ⌝ }
+    requires { ⌜ entry < 256 ⌝ }
+    ensures { λ r. ⌜ ((i : ℕ) (f : Span → List Entry) (o p : ℕ) (ss : List Span) → ((s : Span) → length (encode (f s)) ≡ entry) → length ss ≡ count → r ≡ length (encode (listingIfAny i f o p ss))) ⌝ }
+    ensures { λ r. ⌜ r ≤ 11 + count * entry ⌝ }
+{
+    if count == 0 {
+        0
+    } else {
+        CONTAINER + count * entry
+    }
+}

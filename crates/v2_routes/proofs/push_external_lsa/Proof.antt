@@ -1,0 +1,50 @@
+use lib.ListN.{length}
+use borrow.Author.Tests.{lt-ltb, le-ltb}
+use native.Mathlib.Omega.{arith}
+use Rattle.body.proofs.Laws.{pushed-raw, pushed-decoded}
+use Rattle.format.proofs.Wrote.{then}
+use Rattle.format.specs.Strip.{encode, code}
+use Rattle.format.specs.V2.{externalLsa2}
+use borrow.Author.Needs.{needs}
+use Rattle.v2_routes.proofs.push_external_lsa.Statement.{statement}
+use Rattle.v2_routes.proofs.push_external_lsa.Tie as tie
+
+returns : tie.Need-returns
+unfolding externalLsa2
+returns c = rw (lt-ltb (length (c .before .before .before .args .body .now)) 16 (omega arith)) (pushed-raw _ _)
+
+push-external-fields-requires : tie.Need-push-external-fields-requires
+unfolding externalLsa2 encode code
+push-external-fields-requires c κs =
+    let b = c .before .before .before .before .args .body .now in
+    let t = le-ltb (length b) 16 (omega arith) in
+    let h = rw t at (c .before .before .before .before .pre .0) in
+    omega arith
+
+push-external-tos-metrics-requires : tie.Need-push-external-tos-metrics-requires
+unfolding externalLsa2 encode code
+push-external-tos-metrics-requires c κs =
+    let b = c .before .before .before .before .before .before .before .before .args .body .now in
+    let t = le-ltb (length b) 16 (omega arith) in
+    let h = rw t at (c .before .before .before .before .before .before .before .before .pre .0) in
+    omega arith
+
+same-length : tie.Need-same-length
+same-length c = search needs
+
+returns-2 : tie.Need-returns-2
+unfolding externalLsa2 encode code
+returns-2 c =
+    let b = c .before .before .before .before .before .before .before .before .before .before .before .args .body .now in
+    let t = le-ltb (length b) 16 (omega arith) in
+    rw t (pushed-decoded _ _ _ (c .before .before .push-external-tos-metrics .ensures .1) (then (c .before .before .before .before .before .before .push-external-fields .ensures) (c .before .before .push-external-tos-metrics .ensures .0)))
+
+pub push-external-lsa-spec : {M : Type 1} → statement M
+push-external-lsa-spec =
+    tie.close
+    (tie.spec
+    returns
+    push-external-fields-requires
+    push-external-tos-metrics-requires
+    same-length
+    returns-2)

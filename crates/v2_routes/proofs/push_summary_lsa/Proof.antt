@@ -1,0 +1,59 @@
+use lib.ListN.{length}
+use borrow.Author.Tests.{lt-ltb, le-ltb}
+use native.Mathlib.Omega.{arith}
+use Rattle.body.proofs.Laws.{pushed-raw, pushed-decoded}
+use Rattle.format.proofs.Wrote.{then}
+use Rattle.format.specs.Strip.{encode, code}
+use Rattle.format.specs.V2.{summaryLsa}
+use borrow.Author.Needs.{needs}
+use Rattle.v2_routes.proofs.push_summary_lsa.Statement.{statement}
+use Rattle.v2_routes.proofs.push_summary_lsa.Tie as tie
+
+returns : tie.Need-returns
+unfolding summaryLsa
+returns c = rw (lt-ltb (length (c .before .before .before .args .body .now)) 8 (omega arith)) (pushed-raw _ _)
+
+push-ipv4-at-requires : tie.Need-push-ipv4-at-requires
+unfolding summaryLsa encode code
+push-ipv4-at-requires c κs =
+    let b = c .before .before .before .before .args .body .now in
+    let t = le-ltb (length b) 8 (omega arith) in
+    let h = rw t at (c .before .before .before .before .pre .0) in
+    omega arith
+
+push-metric24-at-requires : tie.Need-push-metric24-at-requires
+unfolding summaryLsa encode code
+push-metric24-at-requires c κs =
+    let b = c .before .before .before .before .before .before .before .before .args .body .now in
+    let t = le-ltb (length b) 8 (omega arith) in
+    let h = rw t at (c .before .before .before .before .before .before .before .before .pre .0) in
+    omega arith
+
+push-summary-tos-metrics-requires : tie.Need-push-summary-tos-metrics-requires
+unfolding summaryLsa encode code
+push-summary-tos-metrics-requires c κs =
+    let b = c .before .before .before .before .before .before .before .before .before .before .before .before .args .body .now in
+    let t = le-ltb (length b) 8 (omega arith) in
+    let h = rw t at (c .before .before .before .before .before .before .before .before .before .before .before .before .pre .0) in
+    omega arith
+
+same-length : tie.Need-same-length
+same-length c = search needs
+
+returns-2 : tie.Need-returns-2
+unfolding summaryLsa encode code
+returns-2 c =
+    let b = c .before .before .before .before .before .before .before .before .before .before .before .before .before .before .before .args .body .now in
+    let t = le-ltb (length b) 8 (omega arith) in
+    rw t (pushed-decoded _ _ _ (c .before .before .push-summary-tos-metrics .ensures .1) (then (then (c .before .before .before .before .before .before .before .before .before .before .push-ipv4-at .ensures) (c .before .before .before .before .before .before .push-metric24-at .ensures)) (c .before .before .push-summary-tos-metrics .ensures .0)))
+
+pub push-summary-lsa-spec : {M : Type 1} → statement M
+push-summary-lsa-spec =
+    tie.close
+    (tie.spec
+    returns
+    push-ipv4-at-requires
+    push-metric24-at-requires
+    push-summary-tos-metrics-requires
+    same-length
+    returns-2)

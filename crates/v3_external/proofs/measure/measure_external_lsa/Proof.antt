@@ -1,0 +1,74 @@
+use Rattle.body.proofs.Laws.{same-decoded}
+use native.Mathlib.Omega.{arith}
+use mathlib.Core.Option.{some}
+use mathlib.Core.Path.{_≡_}
+use lib.ListN.{getD}
+use borrow.Author.Needs.{needs}
+use Rattle.format.specs.Strip.{encode, code}
+use Rattle.format.specs.V3.{hasForwarding, hasTag, hasReference}
+use Rattle.v3_prefix.specs.Fits.{fixedPrefixFits}
+use Rattle.v3_external.proofs.Bodies.{external-raw, external-short, external-decoded}
+use Rattle.v3_prefix.proofs.Fits.{some-of, none-of, fits-inside}
+use Rattle.v3_prefix.proofs.Lengths.{at-most}
+use Rattle.v3_external.proofs.Lengths.{length-optional}
+use Rattle.v3_external.proofs.measure.measure_external_lsa.Statement.{statement}
+use Rattle.v3_external.proofs.measure.measure_external_lsa.Tie as tie
+
+fixed-prefix-fits-requires : tie.Need-fixed-prefix-fits-requires
+fixed-prefix-fits-requires c κs = search needs
+
+enum-known-n : tie.Need-enum-known-n
+enum-known-n c = search needs
+
+enum-told : tie.Need-enum-told
+enum-told c = search needs
+
+returns : tie.Need-returns
+returns c =
+    let b = c .before .before .before .before .args .body .now in
+    λ o. rw (external-raw b o (none-of (fixedPrefixFits b) (c .before .before .fixed-prefix-fits .result) (c .before .before .fixed-prefix-fits .ensures) (c .enum-told .given .1)))
+
+fits : (c : tie.After-known-told) → fixedPrefixFits (c .before .before .before .before .before .args .body .now) ≡ some (c .before .n .given .0 .0)
+fits c = let k = c .before .before .before in some-of _ _ (k .fixed-prefix-fits .result) (k .fixed-prefix-fits .ensures) (c .before .n .given .1)
+
+external-end-requires : tie.Need-external-end-requires
+external-end-requires c κs =
+    let b = c .before .before .before .before .before .args .body .now in
+    let i = fits-inside b (getD b 4 0) 8 _ (fits c) in
+    omega arith
+
+returns-2 : tie.Need-returns-2
+returns-2 c = λ o. rw (external-short (c .before .before .before .before .before .before .before .args .body .now) o _ (fits (c .before .before)) (omega arith))
+
+measure-external-optional-requires : tie.Need-measure-external-optional-requires
+measure-external-optional-requires c κs = search needs
+
+add-t7 : tie.Need-add-t7
+add-t7 c =
+    let b = c .before .before .before .before .before .before .before .before .args .body .now in
+    let e = c .measure-external-optional .ensures 0 0 in
+    let l = length-optional b 0 0 in
+    let h1 = at-most (hasForwarding b) 26 in
+    let h2 = at-most (hasTag b) 14 in
+    let h3 = at-most (hasReference b) 14 in
+    omega arith
+
+returns-3 : tie.Need-returns-3
+unfolding encode code
+returns-3 c = λ o.
+    let q = c .measure-external-optional .ensures o (c .before .before .before .before .n .given .0 .0) in
+    rw (external-decoded (c .before .before .before .before .before .before .before .before .args .body .now) o _ (fits (c .before .before .before)) (omega arith)) (same-decoded (omega arith) (c .before .before .external-end .ensures))
+
+pub measure-external-lsa-spec : {M : Type 1} → statement M
+measure-external-lsa-spec =
+    tie.close
+    (tie.spec
+    fixed-prefix-fits-requires
+    enum-known-n
+    enum-told
+    returns
+    external-end-requires
+    returns-2
+    measure-external-optional-requires
+    add-t7
+    returns-3)

@@ -1,0 +1,60 @@
+use native.Mathlib.Omega.{arith}
+use borrow.Author.Needs.{needs}
+use Rattle.v3_prefix.proofs.Lengths.{at-most}
+use Rattle.v3_external.proofs.Lengths.{length-optional}
+use Rattle.v3_external.proofs.measure.measure_external_optional.Statement.{statement}
+use Rattle.v3_external.proofs.measure.measure_external_optional.Tie as tie
+
+has-forwarding-requires : tie.Need-has-forwarding-requires
+has-forwarding-requires c κs = search needs
+
+present-requires : tie.Need-present-requires
+present-requires c κs = search needs
+
+has-tag-requires : tie.Need-has-tag-requires
+has-tag-requires c κs = search needs
+
+present-requires-2 : tie.Need-present-requires-2
+present-requires-2 c κs = search needs
+
+has-reference-requires : tie.Need-has-reference-requires
+has-reference-requires c κs = search needs
+
+present-requires-3 : tie.Need-present-requires-3
+present-requires-3 c κs = search needs
+
+add-result : tie.Need-add-result
+add-result c =
+    let h1 = at-most (c .before .before .before .before .before .has-forwarding .result) 26 in
+    let h2 = at-most (c .before .before .before .has-tag .result) 14 in
+    let h3 = at-most (c .before .has-reference .result) 14 in
+    omega arith
+
+add-result-2 : tie.Need-add-result-2
+add-result-2 c =
+    let h1 = at-most (c .before .before .before .before .before .has-forwarding .result) 26 in
+    let h2 = at-most (c .before .before .before .has-tag .result) 14 in
+    let h3 = at-most (c .before .has-reference .result) 14 in
+    omega arith
+
+returns : tie.Need-returns
+returns c = λ o n.
+    let l = length-optional (c .before .before .before .before .before .before .before .args .body .now) o n in
+    let e1 = rw (c .before .before .before .before .before .has-forwarding .ensures) at (c .before .before .before .before .present .ensures) in
+    let e2 = rw (c .before .before .before .has-tag .ensures) at (c .before .before .present2 .ensures) in
+    let e3 = rw (c .before .has-reference .ensures) at (c .present3 .ensures) in
+    omega arith
+
+pub measure-external-optional-spec : {M : Type 1} → statement M
+measure-external-optional-spec =
+    tie.close
+    (tie.spec
+    has-forwarding-requires
+    present-requires
+    has-tag-requires
+    present-requires-2
+    has-reference-requires
+    present-requires-3
+    add-result
+    add-result-2
+    returns)

@@ -1,0 +1,96 @@
+use native.Mathlib.Omega.{arith}
+use mathlib.Core.Option.{some}
+use mathlib.Core.Path.{_≡_}
+use lib.ListN.{getD}
+use borrow.Author.Needs.{needs}
+use Rattle.format.specs.Strip.{encode, code}
+use Rattle.format.proofs.Wrote.{then}
+use Rattle.body.proofs.Laws.{pushed-decoded, pushed-raw}
+use Rattle.v3_prefix.specs.Fits.{fixedPrefixFits}
+use Rattle.v3_external.proofs.Bodies.{external-raw, external-short, external-decoded}
+use Rattle.v3_prefix.proofs.Fits.{some-of, none-of, fits-inside}
+use Rattle.v3_external.proofs.push_external_lsa.Statement.{statement}
+use Rattle.v3_external.proofs.push_external_lsa.Tie as tie
+
+fixed-prefix-fits-requires : tie.Need-fixed-prefix-fits-requires
+fixed-prefix-fits-requires c κs = search needs
+
+enum-known-n : tie.Need-enum-known-n
+enum-known-n c = search needs
+
+enum-told : tie.Need-enum-told
+enum-told c = search needs
+
+returns : tie.Need-returns
+returns c =
+    let b = c .before .before .before .before .before .args .body .now in
+    rw (external-raw b (c .before .before .before .before .before .args .o) (none-of (fixedPrefixFits b) (c .before .before .fixed-prefix-fits .result) (c .before .before .fixed-prefix-fits .ensures) (c .enum-told .given .1)))
+    (pushed-raw _ _)
+
+fits : (c : tie.After-known-told) → fixedPrefixFits (c .before .before .before .before .before .before .args .body .now) ≡ some (c .before .n .given .0 .0)
+fits c = let k = c .before .before .before in some-of _ _ (k .fixed-prefix-fits .result) (k .fixed-prefix-fits .ensures) (c .before .n .given .1)
+
+external-end-requires : tie.Need-external-end-requires
+external-end-requires c κs =
+    let b = c .before .before .before .before .before .before .args .body .now in
+    let i = fits-inside b (getD b 4 0) 8 _ (fits c) in
+    omega arith
+
+returns-2 : tie.Need-returns-2
+returns-2 c = rw (external-short (c .before .before .before .before .before .before .before .before .args .body .now) (c .before .before .before .before .before .before .before .before .args .o) _ (fits (c .before .before)) (omega arith)) (pushed-raw _ _)
+
+push-external-flags-requires : tie.Need-push-external-flags-requires
+unfolding encode code
+push-external-flags-requires c κs =
+    let s = c .before .before .before .before .before .before .before .before .before in
+    let b = s .args .body .now in
+    let f = fits (c .before .before .before) in
+    let h = rw (external-decoded b (s .args .o) _ f (omega arith)) at (s .pre .0) in
+    let i = fits-inside b (getD b 4 0) 8 _ f in
+    omega arith
+
+push-external-prefix-requires : tie.Need-push-external-prefix-requires
+unfolding encode code
+push-external-prefix-requires c κs =
+    let s = c .before .before .before .before .before .before .before .before .before .before .before .before .before in
+    let b = s .args .body .now in
+    let f = fits (c .before .before .before .before .before .before .before) in
+    let h = rw (external-decoded b (s .args .o) _ f (omega arith)) at (s .pre .0) in
+    let i = fits-inside b (getD b 4 0) 8 _ f in
+    omega arith
+
+push-external-optional-requires : tie.Need-push-external-optional-requires
+unfolding encode code
+push-external-optional-requires c κs =
+    let s = c .before .before .before .before .before .before .before .before .before .before .before .before .before .before .before .before .before in
+    let b = s .args .body .now in
+    let f = fits (c .before .before .before .before .before .before .before .before .before .before .before) in
+    let h = rw (external-decoded b (s .args .o) _ f (omega arith)) at (s .pre .0) in
+    let i = fits-inside b (getD b 4 0) 8 _ f in
+    omega arith
+
+same-length : tie.Need-same-length
+same-length c = search needs
+
+returns-3 : tie.Need-returns-3
+unfolding encode code
+returns-3 c =
+    rw (external-decoded (c .before .before .before .before .before .before .before .before .before .before .before .before .before .before .before .before .before .before .before .before .args .body .now) (c .before .before .before .before .before .before .before .before .before .before .before .before .before .before .before .before .before .before .before .before .args .o) _ (fits (c .before .before .before .before .before .before .before .before .before .before .before .before .before .before)) (omega arith))
+    (pushed-decoded _ _ _ (c .before .before .before .before .before .before .before .before .before .before .before .before .before .external-end .ensures)
+    (then (then (c .before .before .before .before .before .before .before .before .before .before .push-external-flags .ensures) (c .before .before .before .before .before .before .push-external-prefix .ensures)) (c .before .before .push-external-optional .ensures)))
+
+pub push-external-lsa-spec : {M : Type 1} → statement M
+push-external-lsa-spec =
+    tie.close
+    (tie.spec
+    fixed-prefix-fits-requires
+    enum-known-n
+    enum-told
+    returns
+    external-end-requires
+    returns-2
+    push-external-flags-requires
+    push-external-prefix-requires
+    push-external-optional-requires
+    same-length
+    returns-3)

@@ -1,0 +1,4 @@
+pub mod Fits
+pub mod Bodies
+pub mod Lengths
+pub mod Bounds

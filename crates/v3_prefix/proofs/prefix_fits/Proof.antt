@@ -1,0 +1,45 @@
+use native.Mathlib.Omega.{arith}
+use borrow.Author.Needs.{needs}
+use Rattle.format.specs.Prefix.{octets}
+use Rattle.tlv.proofs.Laws.{some-of, none-of}
+use Rattle.v3_prefix.proofs.Fits.{fits-none, fits-some, fits-past}
+use Rattle.v3_prefix.proofs.prefix_fits.Statement.{statement}
+use Rattle.v3_prefix.proofs.prefix_fits.Tie as tie
+
+prefix-octets-requires : tie.Need-prefix-octets-requires
+prefix-octets-requires c κs = search needs
+
+enum-known-n : tie.Need-enum-known-n
+enum-known-n c = search needs
+
+enum-told : tie.Need-enum-told
+enum-told c = search needs
+
+returns : tie.Need-returns
+returns c =
+    let a = c .before .before .before .before .args in
+    rw (fits-none (a .body .now) (a .prefix-length) (a .p) (none-of (octets (a .prefix-length)) (c .before .before .prefix-octets .result) (c .before .before .prefix-octets .ensures) (c .enum-told .given .1)))
+
+sub-if1 : tie.Need-sub-if1
+sub-if1 c = search needs
+
+returns-2 : tie.Need-returns-2
+returns-2 c =
+    let b = c .before .before .before .before .before .before .args .body .now in
+    let l = c .before .before .before .before .before .before .args .prefix-length in
+    let n = c .before .before .n .given .0 .0 in
+    let s = some-of (octets l) n (c .before .before .before .before .prefix-octets .result) (c .before .before .before .before .prefix-octets .ensures) (c .before .before .n .given .1) in
+    rw (fits-some b l (c .before .before .before .before .before .before .args .p) n s (omega arith))
+
+returns-3 : tie.Need-returns-3
+returns-3 c =
+    let b = c .before .before .before .before .before .before .args .body .now in
+    let l = c .before .before .before .before .before .before .args .prefix-length in
+    let n = c .before .before .n .given .0 .0 in
+    let s = some-of (octets l) n (c .before .before .before .before .prefix-octets .result) (c .before .before .before .before .prefix-octets .ensures) (c .before .before .n .given .1) in
+    rw (fits-past b l (c .before .before .before .before .before .before .args .p) n s (omega arith))
+
+pub prefix-fits-spec : {M : Type 1} → statement M
+prefix-fits-spec =
+    tie.close
+    (tie.spec prefix-octets-requires enum-known-n enum-told returns sub-if1 returns-2 returns-3)

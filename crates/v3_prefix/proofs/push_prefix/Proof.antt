@@ -1,0 +1,76 @@
+use Prim.Native.Nat.{_+_, _-_}
+use native.Mathlib.Omega.{arith}
+use mathlib.Core.Path.{_≡_}
+use borrow.Author.Needs.{needs}
+use Rattle.format.specs.Strip.{encode, code}
+use Rattle.format.specs.V3.{prefix}
+use Rattle.format.proofs.Lists.{contained}
+use Rattle.format.proofs.Unique.{span}
+use Rattle.v3_prefix.specs.Parts.{prefixFields}
+use Rattle.v3_prefix.proofs.Lengths.{length-prefix-fields, length-prefix}
+use Rattle.v3_prefix.proofs.push_prefix.Statement.{statement}
+use Rattle.v3_prefix.proofs.push_prefix.Tie as tie
+
+cast-start : tie.Need-cast-start
+cast-start c = search needs
+
+add-start : tie.Need-add-start
+add-start c = search needs
+
+cast-begin-container : tie.Need-cast-begin-container
+cast-begin-container c = search needs
+
+add-begin-container : tie.Need-add-begin-container
+add-begin-container c = search needs
+
+add-begin-container-2 : tie.Need-add-begin-container-2
+add-begin-container-2 c = search needs
+
+begin-container-requires : tie.Need-begin-container-requires
+unfolding encode code
+begin-container-requires c κs =
+    let s = c .before .before .before .args in
+    let l = length-prefix (s .with-metric) (s .body .now) (s .o) (span (s .p) (4 + s .n)) in
+    let k = length-prefix-fields (s .with-metric) (s .body .now) (s .o) (s .p) (s .n) in
+    omega arith
+
+push-prefix-fields-requires : tie.Need-push-prefix-fields-requires
+unfolding encode code
+push-prefix-fields-requires c κs =
+    let s = c .before .before .before .before .before .before .before .args in
+    let l = length-prefix (s .with-metric) (s .body .now) (s .o) (span (s .p) (4 + s .n)) in
+    let k = length-prefix-fields (s .with-metric) (s .body .now) (s .o) (s .p) (s .n) in
+    omega arith
+
+end-container-requires : tie.Need-end-container-requires
+unfolding encode code
+end-container-requires c κs =
+    let s = c .before .before .before .before .before .before .before .before .before .before .before .args in
+    let l = length-prefix (s .with-metric) (s .body .now) (s .o) (span (s .p) (4 + s .n)) in
+    let k = length-prefix-fields (s .with-metric) (s .body .now) (s .o) (s .p) (s .n) in
+    omega arith
+
+same-length : tie.Need-same-length
+same-length c = search needs
+
+returns : tie.Need-returns
+unfolding prefix
+returns c =
+    let s = c .before .before .before .before .before .before .before .before .before .before .before .before .before .before .args in
+    let z : 4 + s .n - 4 ≡ s .n = omega arith in
+    rw z (contained 97 _ _ (prefixFields (s .with-metric) (s .body .now) (s .o) (s .p) (s .n)) (c .before .before .before .before .before .before .before .before .before .before .begin-container .ensures) (c .before .before .before .before .before .before .push-prefix-fields .ensures) (c .before .before .end-container .ensures))
+
+pub push-prefix-spec : {M : Type 1} → statement M
+push-prefix-spec =
+    tie.close
+    (tie.spec
+    cast-start
+    add-start
+    cast-begin-container
+    add-begin-container
+    add-begin-container-2
+    begin-container-requires
+    push-prefix-fields-requires
+    end-container-requires
+    same-length
+    returns)

@@ -1,0 +1,125 @@
+use Prim.Native.Nat.{_+_, _≤_}
+use native.Mathlib.Omega.{arith}
+use mathlib.Core.Option.{some}
+use mathlib.Core.Path.{_≡_, refl}
+use lib.ListN.{length, getD}
+use borrow.Author.Needs.{needs}
+use Rattle.format.specs.Cut.{cut, prefixRule}
+use Rattle.format.specs.V3.{prefix}
+use Rattle.format.proofs.Loop.{Writing, spread, begin, turn, room, finish}
+use Rattle.format.proofs.Unique.{cut-none}
+use Rattle.format.proofs.Wrote.{kept}
+use Rattle.v3_prefix.specs.Fits.{entryFits}
+use Rattle.v3_prefix.proofs.Fits.{some-of, none-of, fits-inside, entry-stands, entry-ends}
+use Rattle.v3_prefix.proofs.push_prefix_entries.Statement.{statement}
+use Rattle.v3_prefix.proofs.push_prefix_entries.Tie as tie
+
+abbrev Inv-loop : tie.InvT-loop
+Inv-loop strip₀ at body p count with-metric o a₀ pos₀ left₀ strip a pos left = Writing prefixRule (prefix with-metric body o) body count p strip₀ at strip a pos left × (pos ≤ length body)
+
+abbrev μ-loop : tie.MeasureT-loop
+μ-loop strip₀ at body p count with-metric o a₀ pos₀ left₀ strip a pos left = left
+
+loop-holds : tie.Need-loop-holds Inv-loop μ-loop
+loop-holds c = (begin prefixRule _ _ _ _ _ _ _ _ refl refl, search needs)
+
+entry-fits-requires : tie.Need-entry-fits-requires Inv-loop μ-loop
+entry-fits-requires c κs = search needs
+
+enum-known-n : tie.Need-enum-known-n Inv-loop μ-loop
+enum-known-n c = search needs
+
+enum-told : tie.Need-enum-told Inv-loop μ-loop
+enum-told c = search needs
+
+fits : (c : tie.After-known-told Inv-loop μ-loop) → entryFits (c .before .before .before .before .before .before .before .before .args .body .now) (c .before .before .before .before .before .loop .pos) ≡ some (c .before .n .given .0 .0)
+fits c = let k = c .before .before .before in some-of _ _ (k .entry-fits .result) (k .entry-fits .ensures) (c .before .n .given .1)
+
+push-prefix-requires : tie.Need-push-prefix-requires Inv-loop μ-loop
+unfolding spread
+push-prefix-requires c κs =
+    let s = c .before .before .before .before .before .before .before .before .before in
+    let b = s .args .body .now in
+    let l = c .before .before .before .before .before .before .loop in
+    let f = fits (c .before) in
+    let i = fits-inside b (getD b (l .pos) 0) (l .pos + 4) _ f in
+    let m = room prefixRule _ _ _ _ _ _ _ (l .inv .0) (omega arith) (entry-stands b (l .pos) _ f) (s .pre .0) in
+    omega arith
+
+add-pos : tie.Need-add-pos Inv-loop μ-loop
+add-pos c =
+    let s = c .before .before .before .before .before .before .before .before .before .before .before .before in
+    let b = s .args .body .now in
+    let l = c .before .before .before .before .before .before .before .before .before .loop in
+    let f = fits (c .before .before .before .before) in
+    let i = fits-inside b (getD b (l .pos) 0) (l .pos + 4) _ f in
+    omega arith
+
+add-pos-2 : tie.Need-add-pos-2 Inv-loop μ-loop
+add-pos-2 c =
+    let s = c .before .before .before .before .before .before .before .before .before .before .before .before in
+    let b = s .args .body .now in
+    let l = c .before .before .before .before .before .before .before .before .before .loop in
+    let f = fits (c .before .before .before .before) in
+    let i = fits-inside b (getD b (l .pos) 0) (l .pos + 4) _ f in
+    omega arith
+
+sub-left : tie.Need-sub-left Inv-loop μ-loop
+sub-left c = search needs
+
+loop-less : tie.Need-loop-less Inv-loop μ-loop
+loop-less c = search needs
+
+loop-again : tie.Need-loop-again Inv-loop μ-loop
+loop-again c =
+    let s = c .before .before .before .before .before .before .before .before .before .before .before .before in
+    let b = s .args .body .now in
+    let l = c .before .before .before .before .before .before .before .before .before .loop in
+    let f = fits (c .before .before .before .before) in
+    let i = fits-inside b (getD b (l .pos) 0) (l .pos + 4) _ f in
+    (turn prefixRule _ _ _ _ _ _ _ (l .inv .0) (omega arith) (entry-stands b (l .pos) _ f) (c .before .before .push-prefix .ensures), omega arith)
+
+same-length : tie.Need-same-length Inv-loop μ-loop
+same-length c = kept (c .before .loop .inv .0 .wrote)
+
+returns : tie.Need-returns Inv-loop μ-loop
+unfolding spread cut
+returns c =
+    let l = c .before .loop in
+    let z : l .left ≡ 0 = omega arith in
+    let d = finish prefixRule _ _ _ _ _ _ (l .inv .0) (rw z refl) in
+    (d .0, (d .1, l .inv .1))
+
+same-length-2 : tie.Need-same-length-2 Inv-loop μ-loop
+same-length-2 c = kept (c .before .before .before .before .loop .inv .0 .wrote)
+
+returns-2 : tie.Need-returns-2 Inv-loop μ-loop
+unfolding spread
+returns-2 c =
+    let b = c .before .before .before .before .before .before .before .args .body .now in
+    let l = c .before .before .before .before .loop in
+    let k = c .before .before .entry-fits in
+    let e = entry-ends b (l .pos) (none-of (entryFits b (l .pos)) (k .result) (k .ensures) (c .enum-told .given .1)) in
+    let d = finish prefixRule _ _ _ _ _ _ (l .inv .0) (cut-none prefixRule b _ (l .pos) e) in
+    (d .0, (d .1, l .inv .1))
+
+pub push-prefix-entries-spec : {M : Type 1} → statement M
+push-prefix-entries-spec =
+    tie.close
+    (tie.spec
+    Inv-loop
+    μ-loop
+    loop-holds
+    entry-fits-requires
+    enum-known-n
+    enum-told
+    push-prefix-requires
+    add-pos
+    add-pos-2
+    sub-left
+    loop-less
+    loop-again
+    same-length
+    returns
+    same-length-2
+    returns-2)

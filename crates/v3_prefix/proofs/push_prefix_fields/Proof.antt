@@ -1,0 +1,69 @@
+use native.Mathlib.Omega.{arith}
+use borrow.Author.Needs.{needs}
+use Rattle.format.specs.Strip.{encode, code}
+use Rattle.format.proofs.Wrote.{then, encode-append}
+use Rattle.v3_prefix.specs.Parts.{prefixMetric}
+use Rattle.v3_prefix.proofs.Lengths.{length-prefix-metric, length-prefix-fields}
+use Rattle.v3_prefix.proofs.push_prefix_fields.Statement.{statement}
+use Rattle.v3_prefix.proofs.push_prefix_fields.Tie as tie
+
+push-u8-at-requires : tie.Need-push-u8-at-requires
+unfolding encode code
+push-u8-at-requires c κs =
+    let s = c .before .before .before .args in
+    let l = length-prefix-fields (s .with-metric) (s .body .now) (s .o) (s .p) (s .n) in
+    let m = length-prefix-metric (s .with-metric) (s .body .now) (s .o) (s .p) in
+    omega arith
+
+add-push-u8-at : tie.Need-add-push-u8-at
+add-push-u8-at c = search needs
+
+push-u8-at-requires-2 : tie.Need-push-u8-at-requires-2
+unfolding encode code
+push-u8-at-requires-2 c κs =
+    let s = c .before .before .before .before .before .before .before .args in
+    let l = length-prefix-fields (s .with-metric) (s .body .now) (s .o) (s .p) (s .n) in
+    let m = length-prefix-metric (s .with-metric) (s .body .now) (s .o) (s .p) in
+    omega arith
+
+push-prefix-metric-requires : tie.Need-push-prefix-metric-requires
+unfolding encode code
+push-prefix-metric-requires c κs =
+    let s = c .before .before .before .before .before .before .before .before .before .before .before .args in
+    let l = length-prefix-fields (s .with-metric) (s .body .now) (s .o) (s .p) (s .n) in
+    let m = length-prefix-metric (s .with-metric) (s .body .now) (s .o) (s .p) in
+    omega arith
+
+add-push-ipv6-at : tie.Need-add-push-ipv6-at
+add-push-ipv6-at c = search needs
+
+push-ipv6-at-requires : tie.Need-push-ipv6-at-requires
+unfolding encode code
+push-ipv6-at-requires c κs =
+    let s = c .before .before .before .before .before .before .before .before .before .before .before .before .before .before .before .args in
+    let l = length-prefix-fields (s .with-metric) (s .body .now) (s .o) (s .p) (s .n) in
+    let m = length-prefix-metric (s .with-metric) (s .body .now) (s .o) (s .p) in
+    omega arith
+
+same-length : tie.Need-same-length
+same-length c = search needs
+
+returns : tie.Need-returns
+unfolding encode code
+returns c =
+    let s = c .before .before .before .before .before .before .before .before .before .before .before .before .before .before .before .before .before .before .args in
+    rw (encode-append (prefixMetric (s .with-metric) (s .body .now) (s .o) (s .p)))
+    (then (then (c .before .before .before .before .before .before .before .before .before .before .before .before .before .before .push-u8-at .ensures) (c .before .before .before .before .before .before .before .before .before .before .push-u8-at2 .ensures)) (then (c .before .before .before .before .before .before .push-prefix-metric .ensures) (c .before .before .push-ipv6-at .ensures)))
+
+pub push-prefix-fields-spec : {M : Type 1} → statement M
+push-prefix-fields-spec =
+    tie.close
+    (tie.spec
+    push-u8-at-requires
+    add-push-u8-at
+    push-u8-at-requires-2
+    push-prefix-metric-requires
+    add-push-ipv6-at
+    push-ipv6-at-requires
+    same-length
+    returns)

@@ -1,0 +1,79 @@
+use Prim.Native.Nat.{ℕ, _+_}
+use native.Mathlib.Omega.{arith}
+use mathlib.Core.Path.{sym, ap}
+use borrow.Author.Needs.{needs}
+use Rattle.format.specs.Cut.{cut, prefixRule}
+use Rattle.format.specs.Strip.{code}
+use Rattle.format.specs.V3.{prefix}
+use Rattle.format.proofs.Lists.{listed-last, length-listing}
+use Rattle.format.proofs.Loop.{spread}
+use Rattle.v3_prefix.proofs.push_prefixes.Statement.{statement}
+use Rattle.v3_prefix.proofs.push_prefixes.Tie as tie
+
+add-push-prefix-entries : tie.Need-add-push-prefix-entries
+add-push-prefix-entries c = search needs
+
+push-prefix-entries-requires : tie.Need-push-prefix-entries-requires
+unfolding spread code
+push-prefix-entries-requires c κs =
+    let s = c .before .before .before .args in
+    let b = s .body .now in
+    let ss = cut prefixRule b (s .count) (s .p) in
+    let l = length-listing 29 (prefix (s .with-metric) b (s .o)) (s .o) (s .p) ss in
+    omega arith
+
+cast-begin-container : tie.Need-cast-begin-container
+cast-begin-container c = search needs
+
+add-begin-container : tie.Need-add-begin-container
+add-begin-container c = search needs
+
+cast-begin-container-2 : tie.Need-cast-begin-container-2
+cast-begin-container-2 c = search needs
+
+add-begin-container-2 : tie.Need-add-begin-container-2
+add-begin-container-2 c = search needs
+
+begin-container-requires : tie.Need-begin-container-requires
+unfolding spread code
+begin-container-requires c κs =
+    let s = c .before .before .before .before .before .before .before .before .args in
+    let b = s .body .now in
+    let ss = cut prefixRule b (s .count) (s .p) in
+    let l = length-listing 29 (prefix (s .with-metric) b (s .o)) (s .o) (s .p) ss in
+    omega arith
+
+end-container-requires : tie.Need-end-container-requires
+unfolding spread code
+end-container-requires c κs =
+    let s = c .before .before .before .before .before .before .before .before .before .before .before .before .args in
+    let b = s .body .now in
+    let ss = cut prefixRule b (s .count) (s .p) in
+    let l = length-listing 29 (prefix (s .with-metric) b (s .o)) (s .o) (s .p) ss in
+    omega arith
+
+same-length : tie.Need-same-length
+same-length c = search needs
+
+returns : tie.Need-returns
+returns c =
+    let s = c .before .before .before .before .before .before .before .before .before .before .before .before .before .before .before .args in
+    let b = s .body .now in
+    let ss = cut prefixRule b (s .count) (s .p) in
+    let k = c .before .before .before .before .before .before .before .before .before .before .before .push-prefix-entries .ensures in
+    (listed-last 29 (prefix (s .with-metric) b (s .o)) (s .o) (s .p) ss (ap (λ (x : ℕ). s .o + x) (sym (k .1 .0))) (k .0) (c .before .before .before .before .before .before .begin-container .ensures) (c .before .before .end-container .ensures), k .1 .0)
+
+pub push-prefixes-spec : {M : Type 1} → statement M
+push-prefixes-spec =
+    tie.close
+    (tie.spec
+    add-push-prefix-entries
+    push-prefix-entries-requires
+    cast-begin-container
+    add-begin-container
+    cast-begin-container-2
+    add-begin-container-2
+    begin-container-requires
+    end-container-requires
+    same-length
+    returns)
