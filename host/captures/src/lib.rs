@@ -79,7 +79,7 @@ fn of_frame(frame: &Frame<'_>) -> Vec<Input> {
     std::iter::once(whole).chain(lsas).collect()
 }
 
-/// The LSAs of an update, by their declared lengths (document 01, the cut).
+/// The LSAs of an update, by their declared lengths (the requirements, the cut).
 fn cut(update: &Input) -> Vec<Input> {
     let mut lsas = Vec::new();
     let mut at = 4;

@@ -130,7 +130,7 @@ fn v3_body(rng: &mut Rng, function: u16) -> Vec<u8> {
     }
 }
 
-/// Octets of a prefix length, as document 01 has it; none above 128.
+/// Octets of a prefix length, as the requirements have it; none above 128.
 pub fn octets(length: u8) -> usize {
     if length > 128 {
         return 0;

@@ -1,6 +1,6 @@
 //! A strip's bytes from its listing, for expectations written by hand.
 //!
-//! This follows document 01's two tables (the kinds, and the words that the
+//! This follows the requirements' two tables (the kinds, and the words that the
 //! small program prints) and shares no code with the oracle.
 //!
 //! ```

@@ -1,4 +1,4 @@
-//! The field ids of document 01, found by a descriptor's identity.
+//! The field ids of the requirements, found by a descriptor's identity.
 //!
 //! A row of a table is known by its address, since statics do not overlap.
 //! The reference keeps some single descriptors to itself; those are known by

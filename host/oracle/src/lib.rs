@@ -2,7 +2,7 @@
 //!
 //! The files of `docs/src` are compiled as they lie there, against the
 //! stand-in `packet-dissector-core`, which records their calls. From that
-//! record [`strip`](mod@strip) makes the strip of document 01. The refusals
+//! record [`strip`](mod@strip) makes the strip of the requirements. The refusals
 //! 1 to 5 are not in the reference; they stand in `walks` and are ours.
 //!
 //! ```

@@ -1,4 +1,4 @@
-//! From the record of the reference's calls to the strip of document 01.
+//! From the record of the reference's calls to the strip of the requirements.
 
 use std::ops::Range;
 

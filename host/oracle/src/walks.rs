@@ -1,4 +1,4 @@
-//! The three walks: document 01's refusals 1 to 5, then the reference.
+//! The three walks: the requirements' refusals 1 to 5, then the reference.
 //!
 //! The refusals are ours. The reference leaves them to its callers, or would
 //! panic, or has no limit; docs/DIFFERENCES.md lists them.
@@ -73,7 +73,7 @@ impl Call<'_> {
         }
     }
 
-    /// Ours: refusals 1 to 4, in document 01's order.
+    /// Ours: refusals 1 to 4, in the requirements' order.
     fn refusal(&self) -> Option<u8> {
         let least = match self.walk {
             Walk::Headers => 0,

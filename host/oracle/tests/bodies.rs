@@ -1,4 +1,4 @@
-//! One LSA of each body that document 01 lists in modules 4 and 5, with its
+//! One LSA of each body that the requirements list in modules 4 and 5, with its
 //! entries written by hand: the order, the widths, and which arrays are
 //! opened when they are empty.
 

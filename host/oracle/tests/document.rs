@@ -38,7 +38,7 @@ fn tests_and_document_name_each_other() {
     let own = &tests("tests/differences.rs") | &tests("src/intended.rs");
     assert!(own.len() > 20, "{own:?}");
     assert_eq!(&own - &named, BTreeSet::new(), "not named");
-    let others = &tests("tests/document01.rs") | &tests("../ospf-strip/tests/wrapper.rs");
+    let others = &tests("tests/requirements.rs") | &tests("../ospf-strip/tests/wrapper.rs");
     assert_eq!(&named - &(&own | &others), BTreeSet::new(), "not there");
 }
 

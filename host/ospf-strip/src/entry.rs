@@ -6,7 +6,7 @@ use std::ops::Range;
 
 use crate::{Refusal, label, name};
 
-/// What an entry is, with document 01's kind bytes.
+/// What an entry is, with the requirements' kind bytes.
 #[derive(Clone, Copy, Debug, PartialEq, Eq)]
 #[repr(u8)]
 pub enum Kind {
@@ -178,7 +178,7 @@ mod tests {
         }
     }
 
-    /// Document 01's condition of refusal 9, at every small range, offset and
+    /// The requirements' condition of refusal 9, at every small range, offset and
     /// packet length.
     #[test]
     fn part_by_its_condition() {

@@ -25,7 +25,7 @@
 //! assert_eq!(rest.name(2), Some("unparsed"));
 //! assert_eq!(rest.part(&body, 0)?, [0xFF]);
 //!
-//! // A call that is turned down says why, by document 01's number.
+//! // A call that is turned down says why, by the requirements' number.
 //! let refused = buffer.lsa(4, &body, 0).unwrap_err();
 //! assert_eq!((refused, refused.number()), (Refusal::Version, 1));
 //! # Ok::<(), Refusal>(())
@@ -110,7 +110,7 @@ fn length(answer: u64) -> usize {
 fn refusal(answer: u64) -> Option<Refusal> {
     match (answer >> 32) as u8 {
         0 => None,
-        number => Some(Refusal::from_number(number).expect("a number of document 01")),
+        number => Some(Refusal::from_number(number).expect("a number of the requirements")),
     }
 }
 

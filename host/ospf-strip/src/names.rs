@@ -16,7 +16,7 @@ pub fn label(version: u8, id: u8) -> Option<&'static str> {
     row(version, id).map(|row| row.1)
 }
 
-/// The row of document 01's id.
+/// The row of the requirements' id.
 fn row(version: u8, id: u8) -> Option<Row> {
     let at = |table: &'static [Row], first: u8| table.get((id - first) as usize).copied();
     match (version, id) {

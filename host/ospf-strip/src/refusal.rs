@@ -3,7 +3,7 @@
 use std::error::Error;
 use std::fmt;
 
-/// A refusal, with document 01's number.
+/// A refusal, with the requirements' number.
 #[derive(Clone, Copy, Debug, PartialEq, Eq)]
 #[repr(u8)]
 pub enum Refusal {
@@ -22,7 +22,7 @@ pub enum Refusal {
 }
 
 impl Refusal {
-    /// Document 01's number.
+    /// The requirements' number.
     pub fn number(self) -> u8 {
         self as u8
     }

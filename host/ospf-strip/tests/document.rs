@@ -96,7 +96,7 @@ fn names_are_this_crates() {
     }
 }
 
-/// Document 01's word for a kind.
+/// The requirements' word for a kind.
 fn word(kind: Kind) -> &'static str {
     ["open", "close", "u8", "u16", "u32", "ip4", "ip6", "bytes"][kind as usize - 1]
 }

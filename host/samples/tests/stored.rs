@@ -34,7 +34,7 @@ fn captures_bin_is_made_again() {
 
 const DATA: &str = "00 01 02 01 0A 00 00 01 0A 00 00 01 80 00 00 01 12 34 00 18 FF";
 
-/// The worked listing of document 01 at offset 24, as a sample.
+/// The worked listing of the requirements at offset 24, as a sample.
 fn worked() -> Sample {
     let strip = listing::strip(
         "open 114 24 44\n open 112 24 44\n u16 0 24 26 1\n u8 1 26 27 2\n u8 2 27 28 1\n \

@@ -1,4 +1,4 @@
-//! The strip of document 01 by hand-written Rust: measured, then written, with
+//! The strip of the requirements by hand-written Rust: measured, then written, with
 //! no allocation and no unsafe code. An entry's bytes are taken off the lent
 //! strip by one test, a record's or link's off the data by one.
 

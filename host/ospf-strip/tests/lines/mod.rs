@@ -2,7 +2,7 @@
 
 use ospf_strip::{Entry, Value};
 
-/// The line that document 01's program prints for an entry.
+/// The line that the program `dissect` prints for an entry.
 pub fn line(entry: &Entry) -> String {
     let word = ["open", "close", "u8", "u16", "u32", "ip4", "ip6", "bytes"];
     let word = word[entry.kind() as usize - 1];

@@ -1,4 +1,4 @@
-//! Document 01's worked listing and its edge bodies P1 to P12. What is
+//! The requirements' worked listing and its edge bodies P1 to P12. What is
 //! expected is written by hand from the document, not taken from the oracle.
 
 use listing::{bytes, hex};
@@ -326,7 +326,7 @@ fn p12_router_lsa_without_a_body() {
     );
 }
 
-/// The refusals in the order of document 01's table, each with those after
+/// The refusals in the order of the requirements' table, each with those after
 /// it present as well.
 #[test]
 fn refusals_in_order() {
