@@ -8,7 +8,6 @@ use mathlib.Core.Option.{Option, none, some}
 use lib.ListN.{length, getD}
 use lib.Dec.{ltb, leb, eqb}
 use borrow.Author.Tests.{leb-true}
-use Rattle.format.specs.Strip as strip
 use Rattle.format.specs.Strip.{stepAt, bodyLength, entryAt}
 use Rattle.format.specs.Strip.Step.{entry, end, refused}
 use Rattle.strip.specs.Answers.{stepOf}

@@ -3,14 +3,6 @@ use lib.Seq.{length-take-le}
 use borrow.Author.Needs.{needs}
 use Rattle.dissect.proofs.main.Statement.{statement}
 use Rattle.dissect.proofs.main.Tie as tie
-use Rattle.dissect.proofs.main.Reads as reads
-use Rattle.dissect.proofs.main.Lts as lts
-use Rattle.dissect.proofs.print_entries.Reads as print-entries-reads
-use Rattle.io.proofs.large_buffer.Reads as large-buffer-reads
-use Rattle.io.proofs.read_full.Reads as read-full-reads
-use Rattle.io.proofs.write_all.Reads as write-all-reads
-use Rattle.print.proofs.lines.answer_line.Reads as answer-line-reads
-use Rattle.program.proofs.run.Reads as run-reads
 
 slice-aggregate-read-full : tie.Need-slice-aggregate-read-full
 slice-aggregate-read-full c = search needs

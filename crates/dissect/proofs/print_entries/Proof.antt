@@ -7,11 +7,6 @@ use lib.ListN.{length}
 use Rattle.dissect.proofs.Forward.{forward}
 use Rattle.dissect.proofs.print_entries.Statement.{statement}
 use Rattle.dissect.proofs.print_entries.Tie as tie
-use Rattle.dissect.proofs.print_entries.Reads as reads
-use Rattle.dissect.proofs.print_entries.Lts as lts
-use Rattle.io.proofs.write_all.Reads as write-all-reads
-use Rattle.print.proofs.lines.entry_line.Reads as entry-line-reads
-use Rattle.reader.proofs.step_from.Reads as step-from-reads
 
 abbrev Inv-loop : tie.InvT-loop
 Inv-loop strip line₀ place₀ line place = (place ≤ length strip) × (length line ≡ 160)

@@ -4,9 +4,6 @@ use borrow.Author.Tests.{lt-ltb, le-ltb}
 use borrow.Author.Needs.{needs}
 use Rattle.program.proofs.count_of.Statement.{statement}
 use Rattle.program.proofs.count_of.Tie as tie
-use Rattle.program.proofs.count_of.Reads as reads
-use Rattle.program.proofs.count_of.Lts as lts
-use Rattle.util.proofs.read_be_u32.Reads as read-be-u32-reads
 
 returns : tie.Need-returns
 returns c = rw (lt-ltb (length (c .before .before .args .«data» .now)) 4 (omega arith))

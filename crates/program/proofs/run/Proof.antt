@@ -6,14 +6,10 @@ use lib.ListN.{length, getD, drop, length-drop}
 use lib.Seq.{take-all}
 use Rattle.format.specs.Print.{maxInput, programOf}
 use Rattle.format.specs.Walks.{answerOf, stripOf}
-use borrow.Author.Tests.{lt-ltb, le-ltb, eq-eqb, ne-eqb}
+use borrow.Author.Tests.{lt-ltb, le-ltb}
 use borrow.Author.Needs.{needs}
 use Rattle.program.proofs.run.Statement.{statement}
 use Rattle.program.proofs.run.Tie as tie
-use Rattle.program.proofs.run.Reads as reads
-use Rattle.program.proofs.run.Lts as lts
-use Rattle.common.proofs.refused.Reads as refused-reads
-use Rattle.program.proofs.walk.Reads as walk-reads
 
 refused-requires : tie.Need-refused-requires
 refused-requires c κs = search needs

@@ -4,12 +4,6 @@ use borrow.Author.Tests.{eq-eqb, ne-eqb}
 use borrow.Author.Needs.{needs}
 use Rattle.program.proofs.walk.Statement.{statement}
 use Rattle.program.proofs.walk.Tie as tie
-use Rattle.program.proofs.walk.Reads as reads
-use Rattle.program.proofs.walk.Lts as lts
-use Rattle.common.proofs.push_lsa_headers.Reads as push-lsa-headers-reads
-use Rattle.common.proofs.push_lsa.Reads as push-lsa-reads
-use Rattle.common.proofs.push_lsu_lsas.Reads as push-lsu-lsas-reads
-use Rattle.program.proofs.count_of.Reads as count-of-reads
 
 push-lsa-headers-requires : tie.Need-push-lsa-headers-requires
 push-lsa-headers-requires c κs = search needs

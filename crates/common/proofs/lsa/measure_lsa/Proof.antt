@@ -5,7 +5,6 @@ use borrow.Author.Tests.{eq-eqb, ne-eqb}
 use borrow.Author.Needs.{needs}
 use Rattle.common.proofs.lsa.measure_lsa.Statement.{statement}
 use Rattle.common.proofs.lsa.measure_lsa.Tie as tie
-use Rattle.v3_lsa.proofs.measure.measure_lsa.Reads as measure-measure-lsa-reads′
 
 measure-lsa-requires : tie.Need-measure-lsa-requires
 measure-lsa-requires c κs = search needs

@@ -3,7 +3,6 @@ use borrow.Author.Tests.{eq-eqb, ne-eqb}
 use borrow.Author.Needs.{needs}
 use Rattle.common.proofs.lsa.push_lsa_fields.Statement.{statement}
 use Rattle.common.proofs.lsa.push_lsa_fields.Tie as tie
-use Rattle.v3_lsa.proofs.push_lsa.Reads as push-lsa-reads′
 
 push-lsa-requires : tie.Need-push-lsa-requires
 push-lsa-requires c κs =

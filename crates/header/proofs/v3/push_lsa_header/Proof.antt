@@ -5,9 +5,6 @@ use Rattle.header.proofs.Front.{front3}
 use borrow.Author.Needs.{needs}
 use Rattle.header.proofs.v3.push_lsa_header.Statement.{statement}
 use Rattle.header.proofs.v3.push_lsa_header.Tie as tie
-use Rattle.header.proofs.v3.push_lsa_header.Reads as reads
-use Rattle.header.proofs.v3.push_lsa_header.Lts as lts
-use Rattle.header.proofs.v3.push_lsa_header_fields.Reads as push-lsa-header-fields-reads
 
 slice-aggregate-push-lsa-header-fields : tie.Need-slice-aggregate-push-lsa-header-fields
 slice-aggregate-push-lsa-header-fields c = sym (length-take-le 20 (c .before .before .before .before .args .lsa .now) (omega arith))

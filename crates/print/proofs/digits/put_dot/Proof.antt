@@ -4,10 +4,6 @@ use Rattle.print.proofs.Numerals.{length-digits}
 use borrow.Author.Needs.{needs}
 use Rattle.print.proofs.digits.put_dot.Statement.{statement}
 use Rattle.print.proofs.digits.put_dot.Tie as tie
-use Rattle.print.proofs.digits.put_dot.Reads as reads
-use Rattle.print.proofs.digits.put_dot.Lts as lts
-use Rattle.print.proofs.digits.put_digits.Reads as put-digits-reads
-use Rattle.strip.proofs.put.put_u8.Reads as put-u8-reads
 
 put-digits-requires : tie.Need-put-digits-requires
 put-digits-requires c κs = search needs

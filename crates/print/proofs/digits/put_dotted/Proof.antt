@@ -5,10 +5,6 @@ use Rattle.print.proofs.Numerals.{length-dot}
 use borrow.Author.Needs.{needs}
 use Rattle.print.proofs.digits.put_dotted.Statement.{statement}
 use Rattle.print.proofs.digits.put_dotted.Tie as tie
-use Rattle.print.proofs.digits.put_dotted.Reads as reads
-use Rattle.print.proofs.digits.put_dotted.Lts as lts
-use Rattle.print.proofs.digits.put_digits.Reads as put-digits-reads
-use Rattle.print.proofs.digits.put_dot.Reads as put-dot-reads
 
 cast-put-dot : tie.Need-cast-put-dot
 cast-put-dot c = search needs

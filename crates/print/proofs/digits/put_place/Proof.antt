@@ -4,9 +4,6 @@ use Rattle.print.proofs.Numerals.{length-spaced}
 use borrow.Author.Needs.{needs}
 use Rattle.print.proofs.digits.put_place.Statement.{statement}
 use Rattle.print.proofs.digits.put_place.Tie as tie
-use Rattle.print.proofs.digits.put_place.Reads as reads
-use Rattle.print.proofs.digits.put_place.Lts as lts
-use Rattle.print.proofs.digits.put_spaced.Reads as put-spaced-reads
 
 put-spaced-requires : tie.Need-put-spaced-requires
 put-spaced-requires c κs = search needs

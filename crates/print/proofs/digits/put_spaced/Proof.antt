@@ -2,10 +2,6 @@ use Rattle.format.proofs.Wrote.{then}
 use borrow.Author.Needs.{needs}
 use Rattle.print.proofs.digits.put_spaced.Statement.{statement}
 use Rattle.print.proofs.digits.put_spaced.Tie as tie
-use Rattle.print.proofs.digits.put_spaced.Reads as reads
-use Rattle.print.proofs.digits.put_spaced.Lts as lts
-use Rattle.print.proofs.digits.put_digits.Reads as put-digits-reads
-use Rattle.strip.proofs.put.put_u8.Reads as put-u8-reads
 
 put-u8-requires : tie.Need-put-u8-requires
 put-u8-requires c κs = search needs

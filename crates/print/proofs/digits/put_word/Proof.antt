@@ -8,9 +8,6 @@ use Rattle.format.specs.Wrote.{Wrote}
 use Rattle.format.proofs.Wrote.{then, kept, nothing}
 use Rattle.print.proofs.digits.put_word.Statement.{statement}
 use Rattle.print.proofs.digits.put_word.Tie as tie
-use Rattle.print.proofs.digits.put_word.Reads as reads
-use Rattle.print.proofs.digits.put_word.Lts as lts
-use Rattle.strip.proofs.put.put_u8.Reads as put-u8-reads
 
 abbrev Inv-loop : tie.InvT-loop
 Inv-loop out₀ at word a₀ i₀ out a i = Wrote out₀ at (take i word) out a × (i ≤ length word)

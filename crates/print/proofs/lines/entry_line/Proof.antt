@@ -9,9 +9,6 @@ use Rattle.format.proofs.Wrote.{nothing}
 use borrow.Author.Needs.{needs}
 use Rattle.print.proofs.lines.entry_line.Statement.{statement}
 use Rattle.print.proofs.lines.entry_line.Tie as tie
-use Rattle.print.proofs.lines.entry_line.Reads as reads
-use Rattle.print.proofs.lines.entry_line.Lts as lts
-use Rattle.print.proofs.lines.put_line.Reads as put-line-reads
 
 returns : tie.Need-returns
 returns c = rw (lt-ltb (length (c .before .before .args .out .now)) lineRoom (omega arith)) (nothing _ _, (omega arith, refl))

@@ -4,10 +4,6 @@ use Rattle.print.proofs.Numerals.{length-place}
 use borrow.Author.Needs.{needs}
 use Rattle.print.proofs.lines.put_field.Statement.{statement}
 use Rattle.print.proofs.lines.put_field.Tie as tie
-use Rattle.print.proofs.lines.put_field.Reads as reads
-use Rattle.print.proofs.lines.put_field.Lts as lts
-use Rattle.print.proofs.digits.put_place.Reads as put-place-reads
-use Rattle.print.proofs.digits.put_word.Reads as put-word-reads
 
 put-word-requires : tie.Need-put-word-requires
 put-word-requires c κs = search needs

@@ -4,11 +4,6 @@ use Rattle.print.proofs.Numerals.{length-dotted}
 use borrow.Author.Needs.{needs}
 use Rattle.print.proofs.lines.put_ipv4.Statement.{statement}
 use Rattle.print.proofs.lines.put_ipv4.Tie as tie
-use Rattle.print.proofs.lines.put_ipv4.Reads as reads
-use Rattle.print.proofs.lines.put_ipv4.Lts as lts
-use Rattle.print.proofs.digits.put_dotted.Reads as put-dotted-reads
-use Rattle.print.proofs.lines.put_field.Reads as put-field-reads
-use Rattle.strip.proofs.put.put_u8.Reads as put-u8-reads
 
 slice-aggregate-put-field : tie.Need-slice-aggregate-put-field
 slice-aggregate-put-field c = search needs

@@ -2,13 +2,6 @@ use Rattle.format.specs.Print.{line}
 use borrow.Author.Needs.{needs}
 use Rattle.print.proofs.lines.put_line.Statement.{statement}
 use Rattle.print.proofs.lines.put_line.Tie as tie
-use Rattle.print.proofs.lines.put_line.Reads as reads
-use Rattle.print.proofs.lines.put_line.Lts as lts
-use Rattle.print.proofs.digits.put_word.Reads as put-word-reads
-use Rattle.print.proofs.lines.put_ipv4.Reads as put-ipv4-reads
-use Rattle.print.proofs.lines.put_ipv6.Reads as put-ipv6-reads
-use Rattle.print.proofs.lines.put_number.Reads as put-number-reads
-use Rattle.print.proofs.lines.put_range.Reads as put-range-reads
 
 enum-known-entry : tie.Need-enum-known-entry
 enum-known-entry c = search needs

@@ -4,11 +4,6 @@ use Rattle.print.proofs.Numerals.{length-spaced}
 use borrow.Author.Needs.{needs}
 use Rattle.print.proofs.lines.put_number.Statement.{statement}
 use Rattle.print.proofs.lines.put_number.Tie as tie
-use Rattle.print.proofs.lines.put_number.Reads as reads
-use Rattle.print.proofs.lines.put_number.Lts as lts
-use Rattle.print.proofs.digits.put_spaced.Reads as put-spaced-reads
-use Rattle.print.proofs.lines.put_field.Reads as put-field-reads
-use Rattle.strip.proofs.put.put_u8.Reads as put-u8-reads
 
 put-field-requires : tie.Need-put-field-requires
 put-field-requires c κs = search needs

@@ -7,11 +7,6 @@ use Rattle.print.proofs.Numerals.{length-spaced}
 use borrow.Author.Needs.{needs}
 use Rattle.print.proofs.lines.put_ok.Statement.{statement}
 use Rattle.print.proofs.lines.put_ok.Tie as tie
-use Rattle.print.proofs.lines.put_ok.Reads as reads
-use Rattle.print.proofs.lines.put_ok.Lts as lts
-use Rattle.print.proofs.digits.put_spaced.Reads as put-spaced-reads
-use Rattle.print.proofs.digits.put_word.Reads as put-word-reads
-use Rattle.strip.proofs.put.put_u8.Reads as put-u8-reads
 
 slice-aggregate-put-word : tie.Need-slice-aggregate-put-word
 slice-aggregate-put-word c = search needs

@@ -2,10 +2,6 @@ use Rattle.format.proofs.Wrote.{then}
 use borrow.Author.Needs.{needs}
 use Rattle.print.proofs.lines.put_range.Statement.{statement}
 use Rattle.print.proofs.lines.put_range.Tie as tie
-use Rattle.print.proofs.lines.put_range.Reads as reads
-use Rattle.print.proofs.lines.put_range.Lts as lts
-use Rattle.print.proofs.lines.put_field.Reads as put-field-reads
-use Rattle.strip.proofs.put.put_u8.Reads as put-u8-reads
 
 put-field-requires : tie.Need-put-field-requires
 put-field-requires c κs = search needs

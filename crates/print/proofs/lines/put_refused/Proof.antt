@@ -6,11 +6,6 @@ use Rattle.print.proofs.Numerals.{length-spaced}
 use borrow.Author.Needs.{needs}
 use Rattle.print.proofs.lines.put_refused.Statement.{statement}
 use Rattle.print.proofs.lines.put_refused.Tie as tie
-use Rattle.print.proofs.lines.put_refused.Reads as reads
-use Rattle.print.proofs.lines.put_refused.Lts as lts
-use Rattle.print.proofs.digits.put_spaced.Reads as put-spaced-reads
-use Rattle.print.proofs.digits.put_word.Reads as put-word-reads
-use Rattle.strip.proofs.put.put_u8.Reads as put-u8-reads
 
 slice-aggregate-put-word : tie.Need-slice-aggregate-put-word
 slice-aggregate-put-word c = search needs

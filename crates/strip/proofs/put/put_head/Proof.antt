@@ -4,11 +4,6 @@ use Rattle.format.proofs.Wrote.{then}
 use borrow.Author.Needs.{needs}
 use Rattle.strip.proofs.put.put_head.Statement.{statement}
 use Rattle.strip.proofs.put.put_head.Tie as tie
-use Rattle.strip.proofs.put.put_head.Reads as reads
-use Rattle.strip.proofs.put.put_head.Lts as lts
-use Rattle.strip.proofs.put.put_u8.Reads as put-u8-reads
-use Rattle.strip.proofs.swap.put_le64.Reads as put-le64-reads
-use Rattle.strip.proofs.swap.swap_u64.Reads as swap-u64-reads
 
 put-u8-requires : tie.Need-put-u8-requires
 put-u8-requires c κs = search needs

@@ -3,10 +3,6 @@ use Rattle.strip.proofs.SwapLaws.{swapped16, written-as}
 use borrow.Author.Needs.{needs}
 use Rattle.strip.proofs.put.put_u16.Statement.{statement}
 use Rattle.strip.proofs.put.put_u16.Tie as tie
-use Rattle.strip.proofs.put.put_u16.Reads as reads
-use Rattle.strip.proofs.put.put_u16.Lts as lts
-use Rattle.strip.proofs.swap.put_le16.Reads as put-le16-reads
-use Rattle.strip.proofs.swap.swap_u16.Reads as swap-u16-reads
 
 swap-u16-requires : tie.Need-swap-u16-requires
 swap-u16-requires c κs = search needs

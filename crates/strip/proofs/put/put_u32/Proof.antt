@@ -3,10 +3,6 @@ use Rattle.strip.proofs.SwapLaws.{swapped32, written-as}
 use borrow.Author.Needs.{needs}
 use Rattle.strip.proofs.put.put_u32.Statement.{statement}
 use Rattle.strip.proofs.put.put_u32.Tie as tie
-use Rattle.strip.proofs.put.put_u32.Reads as reads
-use Rattle.strip.proofs.put.put_u32.Lts as lts
-use Rattle.strip.proofs.swap.put_le32.Reads as put-le32-reads
-use Rattle.strip.proofs.swap.swap_u32.Reads as swap-u32-reads
 
 swap-u32-requires : tie.Need-swap-u32-requires
 swap-u32-requires c κs = search needs

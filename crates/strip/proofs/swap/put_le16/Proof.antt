@@ -2,9 +2,6 @@ use Rattle.format.proofs.Wrote.{then}
 use borrow.Author.Needs.{needs}
 use Rattle.strip.proofs.swap.put_le16.Statement.{statement}
 use Rattle.strip.proofs.swap.put_le16.Tie as tie
-use Rattle.strip.proofs.swap.put_le16.Reads as reads
-use Rattle.strip.proofs.swap.put_le16.Lts as lts
-use Rattle.strip.proofs.put.put_u8.Reads as put-u8-reads
 
 cast-put-u8 : tie.Need-cast-put-u8
 cast-put-u8 c = search needs

@@ -2,9 +2,6 @@ use Rattle.format.proofs.Wrote.{then}
 use borrow.Author.Needs.{needs}
 use Rattle.strip.proofs.swap.put_le32.Statement.{statement}
 use Rattle.strip.proofs.swap.put_le32.Tie as tie
-use Rattle.strip.proofs.swap.put_le32.Reads as reads
-use Rattle.strip.proofs.swap.put_le32.Lts as lts
-use Rattle.strip.proofs.swap.put_le16.Reads as put-le16-reads
 
 cast-put-le16 : tie.Need-cast-put-le16
 cast-put-le16 c = search needs

@@ -2,9 +2,6 @@ use Rattle.format.proofs.Wrote.{then}
 use borrow.Author.Needs.{needs}
 use Rattle.strip.proofs.swap.put_le64.Statement.{statement}
 use Rattle.strip.proofs.swap.put_le64.Tie as tie
-use Rattle.strip.proofs.swap.put_le64.Reads as reads
-use Rattle.strip.proofs.swap.put_le64.Lts as lts
-use Rattle.strip.proofs.swap.put_le32.Reads as put-le32-reads
 
 cast-put-le32 : tie.Need-cast-put-le32
 cast-put-le32 c = search needs

@@ -3,8 +3,6 @@ use Rattle.strip.specs.Swap.{swap16}
 use borrow.Author.Needs.{needs}
 use Rattle.strip.proofs.swap.swap_u16.Statement.{statement}
 use Rattle.strip.proofs.swap.swap_u16.Tie as tie
-use Rattle.strip.proofs.swap.swap_u16.Reads as reads
-use Rattle.strip.proofs.swap.swap_u16.Lts as lts
 
 mul-result : tie.Need-mul-result
 mul-result c = search needs

@@ -2,9 +2,6 @@ use Rattle.strip.specs.Swap.{swap32}
 use borrow.Author.Needs.{needs}
 use Rattle.strip.proofs.swap.swap_u32.Statement.{statement}
 use Rattle.strip.proofs.swap.swap_u32.Tie as tie
-use Rattle.strip.proofs.swap.swap_u32.Reads as reads
-use Rattle.strip.proofs.swap.swap_u32.Lts as lts
-use Rattle.strip.proofs.swap.swap_u16.Reads as swap-u16-reads
 
 cast-swap-u16 : tie.Need-cast-swap-u16
 cast-swap-u16 c = search needs

@@ -2,9 +2,6 @@ use Rattle.strip.specs.Swap.{swap64}
 use borrow.Author.Needs.{needs}
 use Rattle.strip.proofs.swap.swap_u64.Statement.{statement}
 use Rattle.strip.proofs.swap.swap_u64.Tie as tie
-use Rattle.strip.proofs.swap.swap_u64.Reads as reads
-use Rattle.strip.proofs.swap.swap_u64.Lts as lts
-use Rattle.strip.proofs.swap.swap_u32.Reads as swap-u32-reads
 
 cast-swap-u32 : tie.Need-cast-swap-u32
 cast-swap-u32 c = search needs
