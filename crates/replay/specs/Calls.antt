@@ -1,12 +1,11 @@
 -- The calls of a file: end to end from its first byte, as far as whole calls stand.
 use Prim.Native.Nat.{ℕ, suc}
-use mathlib.Core.Bool.{Bool, false, cond, not}
+use mathlib.Core.Bool.{Bool, cond, not}
 use mathlib.Core.List.{List, [], _∷_}
-use lib.ListN.{length, getD}
-use lib.Dec.{eqb}
+use lib.ListN.{length}
 use Rattle.format.specs.Cut.{Span, cut}
-use Rattle.replay.specs.Stored.{walkAt, answerAt, callRule}
-use Rattle.replay.specs.Agree.{agreesAt}
+use Rattle.stored.specs.Stored.{callRule}
+use Rattle.stored.specs.Agree.{agreesAt}
 
 abbrev pub calls : (most : ℕ) → List ℕ → List Span
 calls most b = cut (callRule most) b (length b) 0
@@ -19,10 +18,6 @@ countOf f (s ∷ ss) = cond (f (s .at)) (suc (countOf f ss)) (countOf f ss)
 unfoldable pub firstOf : (ℕ → Bool) → List Span → ℕ
 firstOf f [] = 0
 firstOf f (s ∷ ss) = cond (f (s .at)) 0 (suc (firstOf f ss))
-
--- The call is of this walk, and its stored answer has this number.
-unfoldable pub isOf : List ℕ → (walk number : ℕ) → ℕ → Bool
-isOf b w n p = cond (eqb (walkAt b p) w) (eqb (getD b (answerAt b p) 0) n) false
 
 unfoldable pub differs : List ℕ → ℕ → Bool
 differs b p = not (agreesAt b p)

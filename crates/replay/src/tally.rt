@@ -2,11 +2,12 @@
 ghost use mathlib.Core.Path.{_≡_};
 ghost use lib.ListN.{length};
 ghost use Rattle.format.specs.Cut.{after};
-ghost use Rattle.replay.specs.Calls.{calls, countOf, differs, firstOf, isOf};
-use crate::compare::agrees;
-use crate::stored::Fit;
-use crate::stored::call_fits;
-use crate::stored::is_of;
+ghost use Rattle.stored.specs.Stored.{isOf};
+ghost use Rattle.replay.specs.Calls.{calls, countOf, differs, firstOf};
+use stored::Fit;
+use stored::agrees;
+use stored::call_fits;
+use stored::is_of;
 
 // How many calls a file has, and where the last of them ends: at the file's end, unless the file is damaged.
 pub struct Whole {

@@ -7,9 +7,8 @@ use lib.ListN.{length}
 use borrow.Author.Needs.{needs}
 use Rattle.format.specs.Cut.{cut}
 use Rattle.format.proofs.Unique.{cut-none}
-use Rattle.replay.specs.Stored.{callRule}
-use Rattle.replay.specs.Calls.{isOf}
-use Rattle.replay.proofs.Rule.{standing-call, some-of, none-of}
+use Rattle.stored.specs.Stored.{callRule, isOf}
+use Rattle.stored.proofs.Rule.{standing-call, some-of, none-of}
 use Rattle.replay.proofs.Turns.{Counting, counting-begin, counting-yes, counting-no, counting-end}
 use Rattle.replay.proofs.tally.count_calls.Statement.{statement}
 use Rattle.replay.proofs.tally.count_calls.Tie as tie

@@ -8,9 +8,9 @@ use lib.ListN.{length}
 use borrow.Author.Needs.{needs}
 use Rattle.format.specs.Cut.{cut, after}
 use Rattle.format.proofs.Unique.{cut-none}
-use Rattle.replay.specs.Stored.{callRule}
+use Rattle.stored.specs.Stored.{callRule}
 use Rattle.replay.specs.Calls.{calls}
-use Rattle.replay.proofs.Rule.{standing-call, some-of, none-of}
+use Rattle.stored.proofs.Rule.{standing-call, some-of, none-of}
 use Rattle.replay.proofs.Turns.{after-turn, length-turn}
 use Rattle.replay.proofs.tally.whole_calls.Statement.{statement}
 use Rattle.replay.proofs.tally.whole_calls.Tie as tie
