@@ -1,7 +1,7 @@
 -- A number is what its bytes say.
-use Prim.Native.Nat.{ℕ, _+_, _*_, _/_, _%_, _<_}
+use Prim.Native.Nat.{ℕ, _+_, _*_, _/_, _%_}
 use native.Mathlib.Omega.{arith}
-use mathlib.Core.Path.{_≡_, refl}
+use mathlib.Core.Path.{_≡_}
 
 -- One law for every width: the quotient and the remainder make the number again.
 pub back16 : (n : ℕ) → n / 256 * 256 + n % 256 ≡ n

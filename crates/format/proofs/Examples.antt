@@ -4,7 +4,7 @@ use mathlib.Core.Path.{_≡_, refl}
 use mathlib.Core.List.{List, [], _∷_, _++_, map, flatMap}
 use mathlib.Core.Option.{Option, none, some}
 use lib.ListN.{length, replicate}
-use Rattle.format.specs.Strip.{Entry, code, encode, container}
+use Rattle.format.specs.Strip.{code, encode, container}
 use Rattle.format.specs.Strip.Entry.{bytes}
 use Rattle.format.specs.Prefix.{octets, address}
 use Rattle.format.specs.Cut.{cut, after, standing}
@@ -13,8 +13,8 @@ use Rattle.format.specs.Body.{Body, listing, listingIfAny, whole, leftov
 use Rattle.format.specs.Body.Body.{decoded, raw}
 use Rattle.format.specs.V2.{link, linkTos, routerLsa2, body2, lsaEntries2, lsaTail2}
 use Rattle.format.specs.V3.{prefixFits, externalLsa3, tlvLsa, body3, lsaEntries3, lsaTail3, routerFlags, options}
-use Rattle.format.specs.Walks.{Answer, answer, answerOf, unless, headersOf, updateOf, lsaOf, outer, headerObject, lsaObject, lsaEntries, lsaTail, headerEntries}
-use Rattle.format.specs.Shown.{Range, range, ranges}
+use Rattle.format.specs.Walks.{answer, answerOf, unless, headersOf, updateOf, lsaOf, outer, headerObject, lsaObject, lsaEntries, headerEntries}
+use Rattle.format.specs.Shown.{range, ranges}
 
 abbrev zeros : ℕ → List ℕ
 zeros n = replicate n 0

@@ -3,11 +3,11 @@ use Prim.Native.Nat.{ℕ, zero, suc, _+_, _*_, _-_, _≤_, _<_}
 use native.Mathlib.Nat.{suc-mul, not-suc-le-zero}
 use native.Mathlib.Omega.{arith}
 use mathlib.Core.Path.{_≡_, refl}
-use mathlib.Core.List.{List, [], flatMap}
+use mathlib.Core.List.{List, flatMap}
 use lib.ListN.{length}
 use Rattle.format.specs.Strip.{Entry, encode}
 use Rattle.format.specs.Wrote.{Wrote}
-use Rattle.format.specs.Cut.{Span, cut, after, fixedRule}
+use Rattle.format.specs.Cut.{Span, cut, fixedRule}
 use Rattle.format.proofs.Unique.{span}
 use Rattle.format.proofs.Loop.{Writing, spread, begin, turn, room, finish}
 use Rattle.format.proofs.Lists.{fixed-stands}

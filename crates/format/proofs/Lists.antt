@@ -2,18 +2,18 @@
 use Prim.Native.Nat.{ℕ, zero, suc, _+_, _*_, _-_, _/_, _≤_, _<_}
 use native.Mathlib.Nat.{add-zero, suc-mul, zero-mul, div-mul-le-self}
 use native.Mathlib.Omega.{arith}
-use mathlib.Core.Path.{_≡_, refl, sym, ap, _∙_}
+use mathlib.Core.Path.{_≡_, refl, ap, _∙_}
 use mathlib.Core.List.{List, [], _∷_, _++_, append-nil, append-assoc, flatMap}
-use mathlib.Core.Option.{Option, none, some}
+use mathlib.Core.Option.{some}
 use lib.ListN.{length, length-append}
 use borrow.Author.Tests.{le-leb}
 use Rattle.format.specs.Strip.{Entry, code, encode, container}
 use Rattle.format.specs.Strip.Entry.{opens, closes}
 use Rattle.format.specs.Wrote.{Wrote}
-use Rattle.format.specs.Cut.{Span, Rule, cut, after, standing, fixedRule}
+use Rattle.format.specs.Cut.{Span, cut, after, standing, fixedRule}
 use Rattle.format.specs.Body.{listing, listingIfAny, whole}
 use Rattle.format.proofs.Wrote.{then, before, encode-append}
-use Rattle.format.proofs.Unique.{cut-some, span}
+use Rattle.format.proofs.Unique.{cut-some}
 use Rattle.format.proofs.Loop.{spread, spread-cons}
 
 -- The bytes of a container: those of its opening, of what is inside, and of its close.

@@ -5,9 +5,8 @@ use native.Mathlib.Nat.{add-zero, not-suc-le-zero}
 use native.Mathlib.Omega.{arith}
 use mathlib.Core.Path.{_≡_, refl, sym, ap, _∙_}
 use mathlib.Core.List.{List, [], _∷_, _++_, append-nil, append-assoc, flatMap}
-use mathlib.Core.Option.{Option, none, some}
+use mathlib.Core.Option.{some}
 use lib.ListN.{length, length-append}
-use lib.Seq.{length-sets}
 use Rattle.format.specs.Strip.{Entry, encode}
 use Rattle.format.specs.Wrote.{Wrote}
 use Rattle.format.specs.Cut.{Span, Rule, cut, after}

@@ -1,7 +1,7 @@
 -- Laws of well-nested entries, and that every LSA's entries are such, with no object of a walk inside.
 use Prim.Native.Nat.{ℕ, _+_, _-_}
 use native.Mathlib.Omega.{arith}
-use mathlib.Core.Path.{_≡_, refl, sym, ap, _∙_, subst}
+use mathlib.Core.Path.{_≡_, refl, sym, ap, _∙_}
 use mathlib.Core.Bool.{Bool, true, false, cond}
 use mathlib.Core.List.{List, [], _∷_, _++_, flatMap, append-assoc}
 use lib.ListN.{length}
@@ -11,7 +11,7 @@ use Rattle.format.specs.Strip.{Entry, container}
 use Rattle.format.specs.Strip.Entry.{opens, closes, u8, u16, u32, ip4, ip6, bytes}
 use Rattle.format.specs.Cut.{Span, after}
 use Rattle.format.specs.Body.{listing, listingIfAny, leftover}
-use Rattle.format.specs.Shown.{Range, range, opening, ranges, isField, Nested}
+use Rattle.format.specs.Shown.{range, opening, ranges, isField, Nested}
 use Rattle.format.specs.Shown.Nested.{none, field, group}
 
 -- Whether all entries are fields.

@@ -11,7 +11,7 @@ use Rattle.format.specs.Strip.Entry.{bytes}
 use Rattle.format.specs.Prefix.{ip6At}
 use Rattle.format.specs.Cut.{Span}
 use Rattle.format.specs.Header.{headerSize, headerEntries2, headerEntries3, identityEntries2, identityEntries3, instanceEntries, opaqueEntries, isOpaque}
-use Rattle.format.specs.Body.{Body, listing, listingIfAny, attachedRouter, bodyEntries, whole}
+use Rattle.format.specs.Body.{Body, listingIfAny, attachedRouter, bodyEntries, whole}
 use Rattle.format.specs.Body.Body.{decoded, raw}
 use Rattle.format.specs.V2 as v2
 use Rattle.format.specs.V3 as v3

@@ -1,6 +1,6 @@
 -- What a reader expects of newness: swapping the headers swaps the answer, and a header is the same as itself. Being the
 -- same is not transitive, because of MaxAgeDiff.
-use Prim.Native.Nat.{ℕ, _+_, _≤_, _<_}
+use Prim.Native.Nat.{ℕ, _+_, _≤_}
 use native.Mathlib.Omega.{arith}
 use mathlib.Core.Path.{_≡_, refl}
 use mathlib.Core.Bool.{Bool, true, false, cond}

@@ -1,16 +1,15 @@
 -- Prefixes: their octets and addresses are of the right length, and comparison decides equality.
-use Prim.Native.Nat.{ℕ, suc, _+_, _*_, _/_, _≤_, _<_}
+use Prim.Native.Nat.{ℕ, _+_, _*_, _/_, _≤_}
 use native.Mathlib.Omega.{arith}
-use mathlib.Core.Path.{_≡_, refl, sym, ap, _∙_}
+use mathlib.Core.Path.{_≡_, refl}
 use mathlib.Core.Bool.{Bool, true, false, cond}
 use mathlib.Core.List.{List, [], _∷_, _++_}
-use mathlib.Core.Option.{Option, none, some}
-use lib.ListN.{length, take, replicate, length-append, length-take, length-replicate}
+use mathlib.Core.Option.{none, some}
+use lib.ListN.{length, replicate, length-append, length-replicate}
 use lib.Seq.{length-take-le}
-use lib.Dec.{leb, ltb, eqb}
-use borrow.Author.Tests.{leb-true, eqb-true, eq-eqb, le-ltb}
-use Rattle.format.specs.Prefix.{octets, address, sameBytes, comparison, Comparison}
-use Rattle.format.specs.Prefix.Comparison.{same, different, refused}
+use lib.Dec.{leb, eqb}
+use borrow.Author.Tests.{leb-true, eqb-true, eq-eqb}
+use Rattle.format.specs.Prefix.{octets, address, sameBytes, comparison}
 
 -- A prefix has at most 16 octets, in whole words of 32 bits.
 pub octets-bound : (l n : ℕ) → octets l ≡ some n → (l ≤ 128) × (n ≤ 16)

@@ -1,20 +1,20 @@
 -- The program: when it refuses, and the worked listing of the requirements.
-use Prim.Native.Nat.{ℕ, _≤_, _<_}
+use Prim.Native.Nat.{ℕ, _≤_}
 use native.Mathlib.Omega.{arith}
-use mathlib.Core.Path.{_≡_, refl, sym, _∙_}
+use mathlib.Core.Path.{_≡_, refl}
 use mathlib.Core.Logic.{inl, inr, ⊎-elim}
 use mathlib.Core.Bool.{Bool, true, false, cond}
 use mathlib.Core.List.{List, [], _∷_, _++_, flatMap}
 use lib.ListN.{length, getD, drop, length-drop}
 use lib.Dec.{eqb, ltb}
-use borrow.Author.Tests.{lt-ltb, le-ltb, ltb-true, ltb-false}
+use borrow.Author.Tests.{le-ltb, ltb-true, ltb-false}
 use Rattle.format.specs.Strip.{Entry, code, encode, container}
 use Rattle.format.specs.Cut.{cut, standing, after}
 use Rattle.format.specs.Header.{headerEntries2}
 use Rattle.format.specs.Body.{listing, leftover, whole}
-use Rattle.format.specs.Walks.{Outcome, answerOf, unless, refusal, isKnown, maxData, maxOffset, headersOf, updateOf, lsaOf, outer, headerObject}
+use Rattle.format.specs.Walks.{answerOf, unless, refusal, isKnown, maxData, maxOffset, headersOf, updateOf, lsaOf, outer, headerObject}
 use Rattle.format.specs.Walks.Outcome.{refused, accepted}
-use Rattle.format.specs.Print.{maxInput, stripRoom, countOf, walkOf, programOf, walkNumber, digits, hex, line, firstLine, printed, ProgramRefusals}
+use Rattle.format.specs.Print.{maxInput, stripRoom, countOf, walkOf, programOf, digits, hex, line, firstLine, printed, ProgramRefusals}
 use Rattle.format.proofs.Refusals.{number-is}
 
 -- A walk over no more data than it may have does not answer 2, and no walk answers more than 5.

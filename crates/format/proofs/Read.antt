@@ -1,18 +1,16 @@
 -- What `encode` writes, `readAll` reads back. A number's bytes are its quotient and its remainder, so this holds of all
 -- entries, whatever their numbers.
-use Prim.Native.Nat.{ℕ, zero, suc, _+_, _*_, _/_, _%_, _≤_, _<_, zero-le}
+use Prim.Native.Nat.{ℕ, zero, suc, _+_, _≤_, _<_, zero-le}
 use native.Mathlib.Omega.{arith}
-use native.Mathlib.Nat.{not-suc-le-zero, le-of-suc-le-suc, add-assoc, add-zero}
-use mathlib.Core.Path.{_≡_, refl, sym, ap, _∙_}
-use mathlib.Core.Bool.{Bool, true, false, cond}
+use native.Mathlib.Nat.{not-suc-le-zero, le-of-suc-le-suc, add-assoc}
+use mathlib.Core.Path.{_≡_, refl, ap}
 use mathlib.Core.List.{List, [], _∷_, _++_, append-assoc, append-nil}
-use mathlib.Core.Option.{Option, none, some}
-use lib.ListN.{length, getD, length-append}
+use mathlib.Core.Option.{some}
+use lib.ListN.{length, length-append}
 use lib.Seq.{getD-append-add, getD-append-seam}
-use lib.Dec.{leb, ltb, eqb}
 use borrow.Author.Tests.{le-leb, le-ltb, ne-eqb, eq-eqb}
-use Rattle.format.specs.Bytes.{be16, be32, be64, be16At, be32At, be64At}
-use Rattle.format.specs.Strip.{Entry, Step, head, code, encode, bodyLength, entryAt, stepAt, readFrom, readAll}
+use Rattle.format.specs.Bytes.{be16, be32, be64}
+use Rattle.format.specs.Strip.{Entry, head, code, encode, bodyLength, entryAt, stepAt, readFrom, readAll}
 use Rattle.format.specs.Strip.Entry.{opens, closes, u8, u16, u32, ip4, ip6, bytes}
 use Rattle.format.specs.Strip.Step.{entry, end}
 use Rattle.format.proofs.Bytes.{back16, back32, back64}

@@ -2,8 +2,7 @@
 -- buffer as it was and answers zeros, but for the length needed where there is too little room.
 use Prim.Native.Nat.{ℕ, _<_, _≤_}
 use native.Mathlib.Omega.{arith}
-use mathlib.Core.Path.{_≡_, refl, sym, _∙_}
-use mathlib.Core.Logic.{_↔_}
+use mathlib.Core.Path.{_≡_, refl}
 use mathlib.Core.Bool.{Bool, true, false, cond}
 use mathlib.Core.List.{List}
 use lib.ListN.{length}
@@ -11,7 +10,7 @@ use lib.Seq.{sets}
 use lib.Dec.{eqb, ltb}
 use borrow.Author.Tests.{ltb-true, ltb-false, eqb-true, eqb-false, lt-ltb, le-ltb, eq-eqb, ne-eqb}
 use Rattle.format.specs.Strip.{Entry, encode}
-use Rattle.format.specs.Walks.{Outcome, Answer, answer, answerOf, stripOf, unless, isKnown, refusal, maxData, maxOffset, NoVersion, TooMuch, TooFar, TooLittle, Refusals, headersOf, updateOf, lsaOf, outer, headerObject, lsaObject, headers, lsas, lsaEntries}
+use Rattle.format.specs.Walks.{Outcome, answer, answerOf, stripOf, unless, isKnown, refusal, maxData, maxOffset, NoVersion, TooMuch, TooFar, TooLittle, Refusals, headersOf, updateOf, lsaOf, outer, headerObject, lsaObject, headers, lsas, lsaEntries}
 use Rattle.format.specs.Header.{headerSize}
 use Rattle.format.specs.Walks.Outcome.{refused, accepted}
 

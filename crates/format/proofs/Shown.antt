@@ -1,31 +1,30 @@
 -- Each list is shown by its strip: the LSAs of an update, the links of a Router-LSA, prefixes; and the headers of a list.
-use Prim.Native.Nat.{ℕ, _+_, _-_, _/_, _≤_}
+use Prim.Native.Nat.{ℕ, _+_, _-_, _≤_}
 use native.Mathlib.Nat.{zero-add}
 use native.Mathlib.Omega.{arith}
 use mathlib.Core.Path.{_≡_, refl, sym, ap, _∙_}
 use mathlib.Core.Bool.{Bool, true, false, cond}
-use mathlib.Core.List.{List, [], _∷_, _++_, map, flatMap, append-nil, append-assoc}
+use mathlib.Core.List.{List, [], _∷_, _++_, flatMap, append-nil, append-assoc}
 use mathlib.Core.Option.{some}
-use lib.ListN.{length, getD, take, drop, length-map}
+use lib.ListN.{length, getD, take, drop}
 use lib.Seq.{sets, sets-eq, take-append-seam}
-use lib.Dec.{eqb, ltb}
+use lib.Dec.{eqb}
 use borrow.Author.Tests.{le-ltb, eq-eqb}
-use Rattle.format.specs.Bytes.{be16At, be32At, part}
+use Rattle.format.specs.Bytes.{be16At, be32At}
 use Rattle.format.specs.Strip.{Entry, encode, readAll, container, u8At, u16At, u32At, wide16At}
-use Rattle.format.specs.Strip.Entry.{opens, closes}
+use Rattle.format.specs.Strip.Entry.{closes}
 use Rattle.format.specs.Prefix.{ip6At}
-use Rattle.format.specs.Cut.{Span, Rule, cut, after, IsCut, recordRule, linkRule, prefixRule, fixedRule}
+use Rattle.format.specs.Cut.{Span, Rule, cut, after, linkRule, prefixRule}
 use Rattle.format.specs.Header.{headerSize, headerEntries2, headerEntries3}
-use Rattle.format.specs.Body.{listing, leftover, bodyEntries, bodyTail, whole}
-use Rattle.format.specs.Body.Body.{decoded}
+use Rattle.format.specs.Body.{listing, leftover, bodyEntries, bodyTail}
 use Rattle.format.specs.V2 as v2
 use Rattle.format.specs.V3 as v3
-use Rattle.format.specs.Walks.{lsaEntries, lsaTail, headerEntries, lsaObject, headerObject, outer, unparsedId, lsas, headers}
-use Rattle.format.specs.Shown.{Range, range, opening, ranges, placed, Nested, Shows, LsaShows, UpdateShows, OneShows, HeadersShow}
+use Rattle.format.specs.Walks.{lsaEntries, lsaTail, headers}
+use Rattle.format.specs.Shown.{Range, range, ranges, placed, Nested, Shows, LsaShows}
 use Rattle.format.proofs.Read.{read-encode}
 use Rattle.format.proofs.Unique.{is-cut, only}
 use Rattle.format.proofs.Nested.{nested-fields, nested-append, nested-leftover, absent, ranges-append}
-use Rattle.format.proofs.NestedLsa.{below, nested-lsa, nested-header, nested-header2, nested-header3, linkInside, nested-link-inside, prefixInside, nested-prefix-inside}
+use Rattle.format.proofs.NestedLsa.{nested-header2, nested-header3, linkInside, nested-link-inside, prefixInside, nested-prefix-inside}
 
 -- The ranges of a container: its own, if it has the id, and those inside it.
 ranges-container : (i j s e : ℕ) (inside : List Entry) → ranges i (container j s e inside) ≡ cond (eqb i j) (range s e ∷ []) [] ++ ranges i inside

@@ -1,10 +1,9 @@
 -- Each body and count has exactly one cut, whatever the rule.
-use Prim.Native.Nat.{ℕ, zero, suc, _+_, _≤_, _<_, zero-le, suc-le-suc}
+use Prim.Native.Nat.{ℕ, zero, suc, _+_, zero-le, suc-le-suc}
 use native.Mathlib.Nat.{le-of-suc-le-suc, not-suc-le-zero}
 use mathlib.Core.Path.{_≡_, refl, sym}
 use mathlib.Core.List.{List, [], _∷_}
 use mathlib.Core.Option.{Option, none, some}
-use lib.ListN.{length}
 use Rattle.format.specs.Cut.{Span, Rule, cut, after, Stands, IsCut}
 use Rattle.format.specs.Cut.Stands.{done, next}
 

@@ -1,30 +1,27 @@
 -- What every accepted call of a walk shows, and when each refusal is answered.
 use Prim.Native.Nat.{ℕ, _+_, _-_, _/_, _≤_, _<_}
 use native.Mathlib.Omega.{arith}
-use mathlib.Core.Path.{_≡_, refl, sym, ap, _∙_, subst}
-use mathlib.Core.Logic.{_↔_}
+use mathlib.Core.Path.{_≡_, refl, ap, _∙_}
 use mathlib.Core.Bool.{Bool, true, false, cond}
-use mathlib.Core.List.{List, [], _∷_, _++_, map, flatMap}
-use mathlib.Core.Option.{some}
+use mathlib.Core.List.{List, []}
 use lib.ListN.{length, take, length-map, length-append}
 use lib.Seq.{sets, length-take-le, length-sets}
 use lib.Dec.{eqb, ltb}
-use borrow.Author.Tests.{ltb-true, ltb-false, eqb-true, eqb-false, lt-ltb, le-ltb, eq-eqb, ne-eqb}
+use borrow.Author.Tests.{ltb-false, eqb-false}
 use Rattle.format.specs.Bytes.{part}
-use Rattle.format.specs.Strip.{Entry, code, encode, readAll, container}
+use Rattle.format.specs.Strip.{Entry, code, encode}
 use Rattle.format.specs.Cut.{Span, cut, after, recordRule, fixedRule}
 use Rattle.format.specs.Header.{headerSize, headerEntries2, headerEntries3}
 use Rattle.format.specs.Body.{listing, leftover, whole}
 use Rattle.format.specs.V2.{lsaEntries2}
 use Rattle.format.specs.V3.{lsaEntries3}
-use Rattle.format.specs.Walks.{Outcome, Answer, answer, answerOf, stripOf, unless, refusal, maxData, maxOffset, headersOf, updateOf, lsaOf, lsaEntries, lsaTail, headerEntries, lsaObject, headerObject, outer, unparsedId, lsas, headers}
+use Rattle.format.specs.Walks.{answer, answerOf, stripOf, unless, refusal, headersOf, updateOf, lsaOf, lsaEntries, lsaTail, headerEntries, lsaObject, headerObject, outer, unparsedId, lsas, headers}
 use Rattle.format.specs.Walks.Outcome.{refused, accepted}
-use Rattle.format.specs.Shown.{Range, ranges, placed, Shows, UpdateShows, OneShows, HeadersShow}
+use Rattle.format.specs.Shown.{UpdateShows, OneShows, HeadersShow}
 use Rattle.format.specs.Shown.Nested.{none}
 use Rattle.format.proofs.NestedLsa.{below, nested-lsa, nested-header}
 use Rattle.format.proofs.Shown.{shows, lsa-shows, read-strip}
 use Rattle.format.proofs.Lists.{length-listing}
-use Rattle.format.proofs.Loop.{spread}
 use Rattle.format.proofs.Wrote.{encode-append}
 
 -- An answer of 0 is that of an accepted outcome whose strip has room.

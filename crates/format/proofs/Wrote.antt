@@ -7,7 +7,7 @@ use mathlib.Core.List.{List, [], _∷_, _++_, append-assoc}
 use lib.ListN.{length, set, length-append}
 use lib.Seq.{sets, length-sets, set-comm}
 use Rattle.format.specs.Wrote.{Wrote}
-use Rattle.format.specs.Strip.{Entry, code, encode}
+use Rattle.format.specs.Strip.{Entry, encode}
 
 sets-append : (l : List ℕ) (at : ℕ) (xs ys : List ℕ) → sets (sets l at xs) (at + length xs) ys ≡ sets l at (xs ++ ys)
 sets-append l at [] ys = rw add-zero
