@@ -141,8 +141,8 @@ fn push_header_fields(strip: &mut [u8], at: usize, version: u8, header: &[u8], o
     ensures { λ r. ⌜ Wrote (now (strip .entry)) at (encode (headerEntries version (now (header .entry)) o)) (now (strip .exit)) r ⌝ }
 {
     if version == 2 {
-        v2::push_lsa_header_fields(strip, at, header, o)
+        v2::push_lsa_header(strip, at, header, o)
     } else {
-        v3::push_lsa_header_fields(strip, at, header, o)
+        v3::push_lsa_header(strip, at, header, o)
     }
 }

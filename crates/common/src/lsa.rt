@@ -58,8 +58,8 @@ pub fn push_lsa_fields(strip: &mut [u8], at: usize, version: u8, lsa: &[u8], o: 
     ensures { λ r. ⌜ Wrote (now (strip .entry)) at (encode (lsaEntries version (now (lsa .entry)) o)) (now (strip .exit)) r ⌝ }
 {
     if version == 2 {
-        v2_lsa::push_lsa(strip, at, lsa, o)
+        v2_lsa::push_lsa(strip, at, &lsa[..], o)
     } else {
-        v3_lsa::push_lsa(strip, at, lsa, o)
+        v3_lsa::push_lsa(strip, at, &lsa[..], o)
     }
 }
