@@ -142,7 +142,7 @@ fn captured() -> Vec<Input> {
     let files = captures::published().expect("the published captures");
     let inputs = files.iter().flat_map(|(_, file)| captures::inputs(file));
     inputs
-        .filter(|input| super::port(input, &mut []) >> 32 == 5)
+        .filter(|input| super::PORT.run(input, &mut []) >> 32 == 5)
         .collect()
 }
 

@@ -5,9 +5,18 @@
 pub mod careful;
 pub mod corpus;
 
+use compare::Walks;
 use inputs::Input;
-use oracle::Walk;
-use ospf_strip::walks;
+
+/// The proved walks.
+pub const PORT: Walks = compare::PROVED;
+
+/// The hand-written ones.
+pub const CAREFUL: Walks = Walks {
+    headers: careful::lsa_headers,
+    update: careful::lsu_lsas,
+    lsa: careful::lsa,
+};
 
 /// What is compared.
 #[derive(Clone, Copy, Debug, PartialEq, Eq)]
@@ -28,29 +37,9 @@ impl Way {
     /// is lent as it is; the reference does not use it.
     pub fn run(self, input: &Input, strip: &mut [u8]) -> u64 {
         match self {
-            Way::Port => port(input, strip),
-            Way::Careful => careful(input, strip),
+            Way::Port => PORT.run(input, strip),
+            Way::Careful => CAREFUL.run(input, strip),
             Way::Reference => input.call().record().fields().len() as u64,
         }
-    }
-}
-
-/// The proved walks.
-pub fn port(input: &Input, strip: &mut [u8]) -> u64 {
-    let (version, data, offset) = (input.version, &input.data, input.offset);
-    match input.walk {
-        Walk::Headers => walks::ospf_lsa_headers(version, data, offset, strip),
-        Walk::Update => walks::ospf_lsu_lsas(version, data, input.count, offset, strip),
-        Walk::Lsa => walks::ospf_lsa(version, data, offset, strip),
-    }
-}
-
-/// The hand-written ones.
-pub fn careful(input: &Input, strip: &mut [u8]) -> u64 {
-    let (version, data, offset) = (input.version, &input.data, input.offset);
-    match input.walk {
-        Walk::Headers => careful::lsa_headers(version, data, offset, strip),
-        Walk::Update => careful::lsu_lsas(version, data, input.count, offset, strip),
-        Walk::Lsa => careful::lsa(version, data, offset, strip),
     }
 }

@@ -29,7 +29,7 @@ struct Load {
 
 impl Load {
     fn new(inputs: Vec<Input>) -> Load {
-        let needed = |input| bench::port(input, &mut []) as u32 as usize;
+        let needed = |input| bench::PORT.run(input, &mut []) as u32 as usize;
         let most = inputs.iter().map(needed).max().unwrap_or(0);
         Load {
             inputs,

@@ -1,7 +1,7 @@
 //! The hand-written walks give the port's answers and strips.
 
 use bench::corpus::{KINDS, worst};
-use bench::{careful, port};
+use bench::{CAREFUL, PORT};
 use inputs::{CLASSES, Input};
 
 /// How much longer than needed the larger buffer is.
@@ -10,12 +10,12 @@ const MORE: usize = 37;
 /// Both walks on one input, with a buffer that is empty, one byte short,
 /// full, and larger.
 fn check(input: &Input) {
-    let needed = port(input, &mut []) as u32 as usize;
+    let needed = PORT.run(input, &mut []) as u32 as usize;
     for room in [0, needed.saturating_sub(1), needed, needed + MORE] {
         let mut expected = vec![0xA5; room];
         let mut found = expected.clone();
-        let answer = port(input, &mut expected);
-        assert_eq!(careful(input, &mut found), answer, "{input:?}");
+        let answer = PORT.run(input, &mut expected);
+        assert_eq!(CAREFUL.run(input, &mut found), answer, "{input:?}");
         assert!(found == expected, "{input:?}, room {room}");
     }
 }

@@ -3,8 +3,8 @@
 
 use std::thread;
 
+use bench::PORT;
 use bench::corpus::worst;
-use bench::port;
 
 const STACK: usize = 2 << 20;
 
@@ -14,9 +14,9 @@ fn worst_inputs_on_a_thread_of_2_mib() {
         let input = worst.input;
         assert_eq!(input.data.len(), 65_535, "{}", worst.name);
         let thread = thread::Builder::new().stack_size(STACK).spawn(move || {
-            let needed = port(&input, &mut []) as u32;
+            let needed = PORT.run(&input, &mut []) as u32;
             let mut strip = vec![0; needed as usize];
-            (port(&input, &mut strip), needed)
+            (PORT.run(&input, &mut strip), needed)
         });
         let (answer, needed) = thread.expect("a thread").join().expect("it returns");
         assert_eq!(answer, u64::from(needed), "{}", worst.name);
@@ -27,6 +27,8 @@ fn worst_inputs_on_a_thread_of_2_mib() {
 /// The longest strip that 65,535 bytes of data can have is among them.
 #[test]
 fn longest_strip_is_among_the_worst() {
-    let lengths = worst().into_iter().map(|w| port(&w.input, &mut []) as u32);
+    let lengths = worst()
+        .into_iter()
+        .map(|w| PORT.run(&w.input, &mut []) as u32);
     assert_eq!(lengths.max(), Some(1_162_790));
 }

@@ -11,6 +11,7 @@ use std::fmt;
 
 use inputs::{Class, Input, Take};
 use oracle::Walk;
+use ospf_strip::walks;
 
 /// The walks to compare, in the shapes of the static library's exports.
 #[derive(Clone, Copy)]
@@ -20,8 +21,16 @@ pub struct Walks {
     pub lsa: fn(version: u8, data: &[u8], offset: u64, strip: &mut [u8]) -> u64,
 }
 
+/// The proved walks, behind `ospf-strip`.
+pub const PROVED: Walks = Walks {
+    headers: walks::ospf_lsa_headers,
+    update: walks::ospf_lsu_lsas,
+    lsa: walks::ospf_lsa,
+};
+
 impl Walks {
-    fn run(&self, input: &Input, strip: &mut [u8]) -> u64 {
+    /// Calls the walk that the input names, and gives its packed answer.
+    pub fn run(&self, input: &Input, strip: &mut [u8]) -> u64 {
         let (version, data, offset) = (input.version, &input.data, input.offset);
         match input.walk {
             Walk::Headers => (self.headers)(version, data, offset, strip),

@@ -4,9 +4,8 @@
 use std::env;
 use std::process::ExitCode;
 
-use compare::{Walks, compare};
+use compare::{PROVED, compare};
 use inputs::{CLASSES, Class};
-use ospf_strip::walks;
 
 fn main() -> ExitCode {
     let mut numbers = env::args().skip(1).map(|word| word.parse::<u64>());
@@ -17,14 +16,9 @@ fn main() -> ExitCode {
         eprintln!("usage: compare [ROUNDS [SEED]]");
         return ExitCode::from(2);
     };
-    let walks = Walks {
-        headers: walks::ospf_lsa_headers,
-        update: walks::ospf_lsu_lsas,
-        lsa: walks::ospf_lsa,
-    };
     let mut total = (0, 0);
     for class in CLASSES.into_iter().chain([Class::Captured]) {
-        match compare(walks, &[class], seed, rounds as u32) {
+        match compare(PROVED, &[class], seed, rounds as u32) {
             Ok(counts) => {
                 let (inputs, calls) = counts[&class];
                 total = (total.0 + inputs, total.1 + calls);

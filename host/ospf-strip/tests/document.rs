@@ -1,12 +1,14 @@
 //! docs/STRIP.md says what the reference, this crate and the strips say.
 
+mod walk;
+
 use std::collections::{BTreeMap, BTreeSet};
 use std::fs;
 use std::path::Path;
 
 use inputs::{Class, Input};
-use oracle::Walk;
-use ospf_strip::{Buffer, Kind, Strip};
+use ospf_strip::{Buffer, Kind};
+use walk::run;
 
 /// Classes that together have every field at every length it may have.
 const CLASSES: [Class; 3] = [Class::Structured, Class::Tos, Class::Prefix];
@@ -37,16 +39,6 @@ fn rows(part: &str) -> Vec<(u8, Vec<String>)> {
         Some((first, row[1..].to_vec()))
     });
     rows.collect()
-}
-
-fn run<'b>(buffer: &'b mut Buffer, input: &Input) -> Option<Strip<'b>> {
-    let (version, data, offset) = (input.version, &input.data, input.offset);
-    let strip = match input.walk {
-        Walk::Headers => buffer.lsa_headers(version, data, offset),
-        Walk::Update => buffer.lsu_lsas(version, data, input.count, offset),
-        Walk::Lsa => buffer.lsa(version, data, offset),
-    };
-    strip.ok()
 }
 
 /// Runs over the generated inputs of a version.

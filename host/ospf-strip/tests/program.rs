@@ -2,15 +2,17 @@
 //! answer and of this crate's iterator, on the captures and on generated inputs.
 
 mod lines;
+mod walk;
 
 use inputs::{Class, Input};
 use lines::line;
-use oracle::{Call, Outcome, Walk};
+use oracle::{Outcome, Walk};
 use ospf_strip::Buffer;
 use std::fs;
 use std::io::{ErrorKind, Write};
 use std::path::Path;
 use std::process::{Command, Stdio};
+use walk::run;
 
 /// The room of the program's strip buffer, and the most data that fit into its input.
 const ROOM: usize = 65_536;
@@ -37,29 +39,21 @@ fn printed(input: &[u8]) -> String {
 
 /// What it should print: the first line by the reference, the others by the iterator.
 fn expected(input: &Input) -> String {
-    let (version, data) = (input.version, &input.data[..]);
-    let count = data
-        .first_chunk()
-        .map_or(0, |bytes| u32::from_be_bytes(*bytes));
-    let call = Call {
-        version,
-        walk: input.walk,
-        data,
-        count: if input.walk == Walk::Update { count } else { 0 },
-        offset: 0,
+    let count = match (input.walk, input.data.first_chunk()) {
+        (Walk::Update, Some(bytes)) => u32::from_be_bytes(*bytes),
+        _ => 0,
     };
-    let answer = call.run().answer(ROOM);
+    let input = Input {
+        count,
+        offset: 0,
+        ..input.clone()
+    };
+    let answer = input.call().run().answer(ROOM);
     if answer.number != 0 {
         return format!("refused {} {}\n", answer.number, answer.length);
     }
-    let mut buffer = Buffer::new();
-    let strip = match input.walk {
-        Walk::Headers => buffer.lsa_headers(version, data, 0),
-        Walk::Update => buffer.lsu_lsas(version, data, count, 0),
-        Walk::Lsa => buffer.lsa(version, data, 0),
-    };
     let mut text = format!("ok {} {} {}\n", answer.records, answer.tail, answer.length);
-    for entry in strip.unwrap() {
+    for entry in run(&mut Buffer::new(), &input).unwrap() {
         text += &line(&entry);
         text += "\n";
     }

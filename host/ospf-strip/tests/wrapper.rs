@@ -1,21 +1,13 @@
 //! The wrapper: growing the buffer, reading entries back, refusals.
 
 mod lines;
+mod walk;
 
-use inputs::{Class, Input};
+use inputs::Class;
 use lines::line;
 use listing::hex;
-use oracle::Walk;
-use ospf_strip::{Buffer, Kind, Refusal, Strip, walks};
-
-fn run<'b>(buffer: &'b mut Buffer, input: &Input) -> Result<Strip<'b>, Refusal> {
-    let (version, data, offset) = (input.version, &input.data, input.offset);
-    match input.walk {
-        Walk::Headers => buffer.lsa_headers(version, data, offset),
-        Walk::Update => buffer.lsu_lsas(version, data, input.count, offset),
-        Walk::Lsa => buffer.lsa(version, data, offset),
-    }
-}
+use ospf_strip::{Buffer, Kind, Refusal, walks};
+use walk::run;
 
 /// Entries read back and written again by another program are the strip.
 #[test]
