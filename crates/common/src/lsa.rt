@@ -51,6 +51,7 @@ pub fn measure_lsa(version: u8, lsa: &[u8]) -> Lsa
     }
 }
 
+// The LSA is lent anew: a slice that is handed on as it came is copied by the call.
 pub fn push_lsa_fields(strip: &mut [u8], at: usize, version: u8, lsa: &[u8], o: u32) -> usize
     requires { ⌜ at + length (encode (lsaEntries version (now lsa) o)) ≤ length (now strip) ⌝ }
     requires { ⌜ headerSize ≤ length (now lsa) ⌝ }

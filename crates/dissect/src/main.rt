@@ -1,19 +1,21 @@
 // The program: reads version, walk and data from standard input, and prints the strip's entries, a line each.
+use print::lines::LINE;
 use print::lines::answer_line;
 use print::lines::entry_line;
+use program::MAX_INPUT;
 use program::run;
 use reader::step_from;
 use strip::step::Step;
 
 fn main() {
     // One byte more than the most input, so that more is seen.
-    let mut input = [0u8; 2051];
+    let mut input = [0u8; MAX_INPUT + 1];
     let n = io::read_full(0, &mut input);
     let mut strip = io::large_buffer();
     let answer = run(&input[..n], &mut strip);
     let number = answer.number;
     let length = answer.length;
-    let mut line = [0u8; 160];
+    let mut line = [0u8; LINE];
     let k = answer_line(&mut line, answer);
     io::write_all(1, &line[..k]);
     if number == 0 {
@@ -22,7 +24,7 @@ fn main() {
 }
 
 fn print_entries(strip: &[u8]) {
-    let mut line = [0u8; 160];
+    let mut line = [0u8; LINE];
     let mut place: usize = 0;
     loop {
         let Step::Entry(entry, next) = step_from(strip, place) else {

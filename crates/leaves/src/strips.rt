@@ -2,6 +2,7 @@
 ghost use mathlib.Core.Path.{_≡_};
 ghost use Prim.Native.Nat.{_+_, _≤_};
 ghost use lib.ListN.{length};
+use print::lines::LINE;
 use print::lines::entry_line;
 use strip::push::begin_container;
 use strip::push::end_container;
@@ -148,7 +149,7 @@ fn print_step(strip: &[u8], place: usize) {
 }
 
 fn print_entry(entry: Entry) {
-    let mut out = [0u8; 160];
+    let mut out = [0u8; LINE];
     let n = entry_line(&mut out, entry);
     word(&out[..n]);
 }

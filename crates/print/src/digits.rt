@@ -7,7 +7,7 @@ ghost use Rattle.format.specs.Wrote.{Wrote};
 ghost use Rattle.format.specs.Print.{digits, spaced, hexDigit, hex, place, dot, dotted};
 use strip::put::put_u8;
 
-const SPACE: u8 = 32;
+pub const SPACE: u8 = 32;
 
 const DOT: u8 = 46;
 

@@ -6,6 +6,7 @@ ghost use lib.ListN.{length, take};
 ghost use Rattle.format.specs.Wrote.{Wrote};
 ghost use Rattle.format.specs.Print.{line, lineRoom, firstLine, field, spaced, dotted, hex, newline, ip4Word, ip6Word};
 ghost use Rattle.print.specs.Text.{entryOf, answerOf, fitting};
+use crate::digits::SPACE;
 use crate::digits::put_dotted;
 use crate::digits::put_hex;
 use crate::digits::put_place;
@@ -17,8 +18,6 @@ use strip::step::Entry;
 
 // No line is longer.
 pub const LINE: usize = 160;
-
-const SPACE: u8 = 32;
 
 const NEWLINE: u8 = 10;
 
