@@ -22,6 +22,7 @@ use header::LsaHeader;
 use header::v2;
 use header::v3;
 use strip::push::begin_container;
+use strip::push::begin_container_at;
 use strip::push::end_container;
 
 pub fn push_lsa_headers(version: u8, data: &[u8], offset: u64, strip: &mut [u8]) -> Answer
@@ -129,7 +130,7 @@ fn push_header(strip: &mut [u8], at: usize, version: u8, data: &[u8], pos: usize
 {
     let q = pos + LsaHeader::SIZE;
     let start = o + pos as u32;
-    let a = begin_container(strip, at, HEADER, start, start + LsaHeader::SIZE as u32);
+    let a = begin_container_at(strip, at, HEADER, 0, LsaHeader::SIZE, start);
     let b = push_header_fields(strip, a, version, &data[pos..q], start);
     end_container(strip, b)
 }
@@ -141,8 +142,8 @@ fn push_header_fields(strip: &mut [u8], at: usize, version: u8, header: &[u8], o
     ensures { λ r. ⌜ Wrote (now (strip .entry)) at (encode (headerEntries version (now (header .entry)) o)) (now (strip .exit)) r ⌝ }
 {
     if version == 2 {
-        v2::push_lsa_header(strip, at, header, o)
+        at + v2::push_lsa_header_fields(&mut strip[at..], 0, &header[..], o)
     } else {
-        v3::push_lsa_header(strip, at, header, o)
+        at + v3::push_lsa_header_fields(&mut strip[at..], 0, &header[..], o)
     }
 }

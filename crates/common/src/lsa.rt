@@ -45,9 +45,9 @@ pub fn measure_lsa(version: u8, lsa: &[u8]) -> Lsa
     ensures { λ r. ⌜ r .length ≤ 18 * length (now (lsa .entry)) ⌝ }
 {
     if version == 2 {
-        v2_lsa::measure::measure_lsa(lsa)
+        v2_lsa::measure::measure_lsa(&lsa[..])
     } else {
-        v3_lsa::measure::measure_lsa(lsa)
+        v3_lsa::measure::measure_lsa(&lsa[..])
     }
 }
 
@@ -63,4 +63,14 @@ pub fn push_lsa_fields(strip: &mut [u8], at: usize, version: u8, lsa: &[u8], o: 
     } else {
         v3_lsa::push_lsa(strip, at, &lsa[..], o)
     }
+}
+
+// The same from a place on. The strip is lent from there on: a store at one address takes less than one at a sum of two.
+pub fn push_lsa_at(strip: &mut [u8], at: usize, version: u8, lsa: &[u8], o: u32) -> usize
+    requires { ⌜ at + length (encode (lsaEntries version (now lsa) o)) ≤ length (now strip) ⌝ }
+    requires { ⌜ headerSize ≤ length (now lsa) ⌝ }
+    requires { ⌜ o + length (now lsa) < 4294967296 ⌝ }
+    ensures { λ r. ⌜ Wrote (now (strip .entry)) at (encode (lsaEntries version (now (lsa .entry)) o)) (now (strip .exit)) r ⌝ }
+{
+    at + push_lsa_fields(&mut strip[at..], 0, version, &lsa[..], o)
 }

@@ -13,7 +13,7 @@ use crate::Answer;
 use crate::LSA;
 use crate::OUTER;
 use crate::lsa::measure_lsa;
-use crate::lsa::push_lsa_fields;
+use crate::lsa::push_lsa_at;
 use crate::no_room;
 use crate::refusal_of;
 use crate::refused;
@@ -22,6 +22,7 @@ use body::measure_unparsed;
 use body::push_unparsed;
 use header::LsaHeader;
 use strip::push::begin_container;
+use strip::push::begin_container_at;
 use strip::push::end_container;
 use util::read_be_u16;
 
@@ -168,7 +169,7 @@ fn push_lsa_object(
 {
     let q = pos + n;
     let start = o + pos as u32;
-    let a = begin_container(strip, at, LSA, start, start + n as u32);
-    let b = push_lsa_fields(strip, a, version, &data[pos..q], start);
+    let a = begin_container_at(strip, at, LSA, 0, n, start);
+    let b = push_lsa_at(strip, a, version, &data[pos..q], start);
     end_container(strip, b)
 }

@@ -1,11 +1,11 @@
 -- Laws of what is written.
-use Prim.Native.Nat.{ℕ, suc, _+_, _≤_, _<_}
-use native.Mathlib.Nat.{add-zero, add-suc, suc-add}
+use Prim.Native.Nat.{ℕ, suc, _+_, _-_, _≤_, _<_}
+use native.Mathlib.Nat.{add-zero, add-suc, suc-add, zero-add}
 use native.Mathlib.Omega.{arith}
 use mathlib.Core.Path.{_≡_, refl, ap, _∙_}
-use mathlib.Core.List.{List, [], _∷_, _++_, append-assoc}
-use lib.ListN.{length, set, length-append}
-use lib.Seq.{sets, length-sets, set-comm}
+use mathlib.Core.List.{List, [], _∷_, _++_, append-assoc, append-nil}
+use lib.ListN.{length, take, drop, set, length-append, length-drop, drop-of-length-le}
+use lib.Seq.{sets, length-sets, set-comm, take-all, sets-eq, drop-drop}
 use Rattle.format.specs.Wrote.{Wrote}
 use Rattle.format.specs.Strip.{Entry, encode}
 
@@ -50,3 +50,26 @@ before {l₀} {l₁} {l₂} {a} {a₁} {a₂} {xs} {ys} v w = record {
   place = rw length-append (omega (arith, v .place));
   contents = w .contents ∙ rw (v .contents) (sets-sets l₀ a xs (a + length xs) ys (omega arith) ∙ sets-append l₀ a xs ys);
 }
+
+sets-front : (bs l : List ℕ) → length bs ≤ length l → sets l 0 bs ≡ bs ++ drop (length bs) l
+sets-front bs l h = rw zero-add at (sets-eq bs l 0 (omega arith))
+
+-- All of a buffer from a place on, lent by itself, has the room that the buffer has from there on.
+pub lent-room : (l : List ℕ) (a n : ℕ) → a + n ≤ length l → 0 + n ≤ length (take (length l - a) (drop a l))
+lent-room l a n h =
+    let d = length-drop a l in
+    let part = take-all (length l - a) (drop a l) (omega arith) in
+    rw part (omega arith)
+
+-- What is written to the front of what was so lent is written from that place on.
+pub lent : {l ys bs : List ℕ} {a n : ℕ} → a + length bs ≤ length l → Wrote (take (length l - a) (drop a l)) 0 bs ys n
+    → Wrote l a bs (take a l ++ (ys ++ drop (length l - a) (drop a l))) (a + n)
+lent {l} {ys} {bs} {a} {n} h w =
+    let d = length-drop a l in
+    let part = take-all (length l - a) (drop a l) (omega arith) in
+    let none = drop-of-length-le (drop a l) {i = length l - a} (omega arith) in
+    let front = sets-front bs (drop a l) (omega arith) in
+    record {
+      place = omega (arith, w .place);
+      contents = rw (w .contents, part, none, front, append-nil (bs ++ drop (length bs) (drop a l)), drop-drop, sets-eq bs l a h, append-assoc);
+    }

@@ -48,17 +48,17 @@ fn kinds(strip: &mut [u8])
     requires { ⌜ 98 ≤ length (now strip) ⌝ }
 {
     let a = begin_container(strip, 0, 255, 4294967295, 4294967295);
-    let b = push_u8(strip, a, 1, 0, 1, 255);
-    let c = push_u16(strip, b, 2, 1, 3, 65535);
-    let d = push_u32(strip, c, 3, 3, 7, 4294967295);
+    let b = push_u8(strip, a, 1, 0, 1, 0, 255);
+    let c = push_u16(strip, b, 2, 1, 2, 0, 65535);
+    let d = push_u32(strip, c, 3, 3, 4, 0, 4294967295);
     more_kinds(strip, d);
 }
 
 fn more_kinds(strip: &mut [u8], at: usize)
     requires { ⌜ at + 51 ≤ length (now strip) ⌝ }
 {
-    let a = push_ipv4(strip, at, 4, 7, 11, 3232235777);
-    let b = push_ipv6(strip, a, 5, 11, 27, 2306139568115548160, 1);
+    let a = push_ipv4(strip, at, 4, 0, 4, 7, 3232235777);
+    let b = push_ipv6(strip, a, 5, 4, 16, 7, 2306139568115548160, 1);
     let c = push_bytes(strip, b, 6, 27, 65562);
     end_container(strip, c);
 }

@@ -73,6 +73,13 @@ swapped-pair s e h k = rw (first64 s e h k, second64 s e h k) (ap2 (swapped32 s 
     ap2 : {a b c d : List ℕ} → a ≡ b → c ≡ d → a ++ c ≡ b ++ d
     ap2 p q = rw (p, q)
 
+-- the range of the n bytes from p on of what begins at o, as a sum of parts
+as-pair : (o p n : ℕ) → o * 4294967297 + (p * 4294967297 + n) ≡ (o + p) * 4294967296 + (o + p + n)
+as-pair o p n = omega arith
+
+pub swapped-range : (o p n : ℕ) → o + (p + n) < 4294967296 → le64 (swap64 (o * 4294967297 + (p * 4294967297 + n))) ≡ be32 (o + p) ++ be32 (o + p + n)
+swapped-range o p n h = rw (as-pair o p n) (swapped-pair (o + p) (o + p + n) (omega arith) (omega arith))
+
 -- what is written, by another name
 pub written-as : {before after : List ℕ} {at next : ℕ} {xs ys : List ℕ} → xs ≡ ys → Wrote before at xs after next → Wrote before at ys after next
 written-as {before} {after} {at} {next} e w = subst (λ (bs : List ℕ). Wrote before at bs after next) e w

@@ -51,3 +51,24 @@ pub fn put_head(strip: &mut [u8], at: usize, kind: u8, id: u8, start: u32, end: 
     let b = put_u8(strip, a, id);
     put_le64(strip, b, swap_u64(start as u64 * 4294967296 + end as u64))
 }
+
+// The same of the n bytes from p on of what begins at o. The one number is a sum of parts: that of o is worked out once for
+// all fields of a record, and that of p and n by the compiler.
+pub fn put_head_at(
+    strip: &mut [u8],
+    at: usize,
+    kind: u8,
+    id: u8,
+    p: usize,
+    n: usize,
+    o: u32,
+) -> usize
+    requires { ⌜ at + 10 ≤ length (now strip) ⌝ }
+    requires { ⌜ o + (p + n) < 4294967296 ⌝ }
+    ensures { λ r. ⌜ Wrote (now (strip .entry)) at (kind ∷ head id (o + p) (o + p + n)) (now (strip .exit)) r ⌝ }
+{
+    let a = put_u8(strip, at, kind);
+    let b = put_u8(strip, a, id);
+    let range = p as u64 * 4294967297 + n as u64;
+    put_le64(strip, b, swap_u64(o as u64 * 4294967297 + range))
+}

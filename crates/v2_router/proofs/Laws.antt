@@ -1,10 +1,11 @@
 -- Laws of links, and of arrays of TOS metrics in any LSA.
 use Prim.Native.Nat.{ℕ, _+_, _*_, _≤_, _<_}
+use native.Mathlib.Nat.{add-zero}
 use native.Mathlib.Omega.{arith}
 use mathlib.Core.Path.{_≡_, refl, sym, ap, _∙_}
 use mathlib.Core.List.{List, [], _∷_, _++_, flatMap}
 use mathlib.Core.Option.{Option, none, some}
-use lib.ListN.{length, getD}
+use lib.ListN.{length, getD, take, drop}
 use Rattle.format.specs.Strip.{Entry, code, encode}
 use Rattle.format.specs.Strip.Entry.{opens, closes}
 use Rattle.format.specs.Wrote.{Wrote}
@@ -14,6 +15,8 @@ use Rattle.format.specs.V2.{link, linkFields, linkTos, linkTosSpans}
 use Rattle.format.proofs.Rules.{inside}
 use Rattle.format.proofs.Loop.{spread}
 use Rattle.format.proofs.Lists.{length-container, length-listing, length-uniform, fixed-cut, listed, if-none, if-some}
+use Rattle.format.proofs.Unique.{span}
+use Rattle.body.proofs.Lent.{lent-u8, lent-u16, lent-wide16, lent-ip4}
 use Rattle.v2_router.specs.Answers.{fitOf}
 use Rattle.v2_router.specs.declared.Fit.{Fit}
 use Rattle.v2_router.specs.declared.Fit.the-variants.{Bytes, Nothing}
@@ -71,3 +74,24 @@ length-most i f o p l (s ∷ ss) u = let h = length-some i f o p l (s ∷ ss) u 
 pub length-link : (b : List ℕ) (o : ℕ) (s : Span) → length (encode (link b o s)) ≡ 73 + length (encode (listingIfAny 69 (linkTos b o) o (s .at + 12) (linkTosSpans b (s .at))))
 unfolding link encode code
 length-link b o s = length-container 96 (o + s .at) (o + s .at + s .len) (linkFields b o (s .at) ++ listingIfAny 69 (linkTos b o) o (s .at + 12) (linkTosSpans b (s .at))) ∙ omega arith
+
+-- A link's fields, and a TOS metric, of bytes that are lent by themselves.
+module _ (b : List ℕ) (o p : ℕ) where
+  pub lent-fields : linkFields (take 12 (drop p b)) (o + p) 0 ≡ linkFields b o p
+  lent-fields = rw (
+    lent-ip4 b o p 12 64 0 (omega arith),
+    lent-ip4 b o p 12 65 4 (omega arith),
+    lent-u8 b o p 12 66 8 (omega arith),
+    lent-u8 b o p 12 67 9 (omega arith),
+    lent-u16 b o p 12 68 10 (omega arith),
+    add-zero p,
+  )
+
+  pub lent-tos : linkTos (take 4 (drop p b)) (o + p) (span 0 4) ≡ linkTos b o (span p 4)
+  unfolding linkTos
+  lent-tos = rw (
+    lent-u8 b o p 4 81 0 (omega arith),
+    lent-wide16 b o p 4 82 2 (omega arith),
+    add-zero p,
+    add-zero (o + p),
+  )

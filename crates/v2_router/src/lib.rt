@@ -15,6 +15,7 @@ ghost use Rattle.v2_router.specs.Answers.{fitOf};
 use body::Body;
 use body::Listed;
 use strip::push::begin_container;
+use strip::push::begin_container_at;
 use strip::push::end_container;
 use strip::push::push_bit_at;
 use strip::push::push_ipv4_at;
@@ -65,6 +66,9 @@ pub const TOS_ENTRY: u8 = 97;
 
 // The length of the entry that opens a container.
 const OPEN_LENGTH: usize = 10;
+
+// A link without its TOS metrics.
+const LINK_SIZE: usize = 12;
 
 // How many bytes the link at a place has, if one stands there.
 pub enum Fit {
@@ -150,10 +154,10 @@ fn link_fits(body: &[u8], p: usize) -> Fit
     requires { ⌜ p ≤ length (now body) ⌝ }
     ensures { λ r. ⌜ r ≡ fitOf (linkRule (now (body .entry)) p) ⌝ }
 {
-    if body.len() - p < 12 {
+    if body.len() - p < LINK_SIZE {
         return Fit::Nothing;
     }
-    let n = 12 + body[p + 9] as usize * 4;
+    let n = LINK_SIZE + body[p + 9] as usize * 4;
     if body.len() - p < n {
         return Fit::Nothing;
     }
@@ -166,8 +170,7 @@ fn push_link(strip: &mut [u8], at: usize, body: &[u8], p: usize, n: usize, o: u3
     requires { ⌜ o + length (now body) < 4294967296 ⌝ }
     ensures { λ r. ⌜ Wrote (now (strip .entry)) at (encode (link (now (body .entry)) o (record { at = p; len = n }))) (now (strip .exit)) r ⌝ }
 {
-    let start = o + p as u32;
-    let a = begin_container(strip, at, LINK, start, start + n as u32);
+    let a = begin_container_at(strip, at, LINK, 0, n, o + p as u32);
     let b = push_link_fields(strip, a, body, p, o);
     let c = push_link_tos_metrics(strip, b, body, p, o);
     end_container(strip, c)
@@ -179,11 +182,23 @@ fn push_link_fields(strip: &mut [u8], at: usize, body: &[u8], p: usize, o: u32) 
     requires { ⌜ o + length (now body) < 4294967296 ⌝ }
     ensures { λ r. ⌜ Wrote (now (strip .entry)) at (encode (linkFields (now (body .entry)) o p)) (now (strip .exit)) r ⌝ }
 {
-    let a = push_ipv4_at(strip, at, LINK_ID, body, p, o);
-    let b = push_ipv4_at(strip, a, LINK_DATA, body, p + 4, o);
-    let c = push_u8_at(strip, b, LINK_TYPE, body, p + 8, o);
-    let d = push_u8_at(strip, c, NUM_TOS, body, p + 9, o);
-    push_u16_at(strip, d, LINK_METRIC, body, p + 10, o)
+    let q = p + LINK_SIZE;
+    push_fields_of_link(strip, at, &body[p..q], o + p as u32)
+}
+
+// The fields of a link that is lent by itself: where they lie in it is then known to the compiler, and their ranges are sums
+// of one number and constants.
+fn push_fields_of_link(strip: &mut [u8], at: usize, link: &[u8], o: u32) -> usize
+    requires { ⌜ at + 62 ≤ length (now strip) ⌝ }
+    requires { ⌜ 12 ≤ length (now link) ⌝ }
+    requires { ⌜ o + length (now link) < 4294967296 ⌝ }
+    ensures { λ r. ⌜ Wrote (now (strip .entry)) at (encode (linkFields (now (link .entry)) o 0)) (now (strip .exit)) r ⌝ }
+{
+    let a = push_ipv4_at(strip, at, LINK_ID, link, 0, o);
+    let b = push_ipv4_at(strip, a, LINK_DATA, link, 4, o);
+    let c = push_u8_at(strip, b, LINK_TYPE, link, 8, o);
+    let d = push_u8_at(strip, c, NUM_TOS, link, 9, o);
+    push_u16_at(strip, d, LINK_METRIC, link, 10, o)
 }
 
 // The TOS metrics of the link at p, if it has any.
@@ -197,7 +212,7 @@ fn push_link_tos_metrics(strip: &mut [u8], at: usize, body: &[u8], p: usize, o: 
     if num_tos == 0 {
         return at;
     }
-    let first = p + 12;
+    let first = p + LINK_SIZE;
     let end = first + num_tos * 4;
     let a = begin_container(
         strip,
@@ -240,10 +255,19 @@ fn push_link_tos_entry(strip: &mut [u8], at: usize, body: &[u8], p: usize, o: u3
     requires { ⌜ o + length (now body) < 4294967296 ⌝ }
     ensures { λ r. ⌜ Wrote (now (strip .entry)) at (encode (linkTos (now (body .entry)) o (record { at = p; len = 4 }))) (now (strip .exit)) r ⌝ }
 {
-    let start = o + p as u32;
-    let a = begin_container(strip, at, TOS_ENTRY, start, start + 4);
-    let b = push_u8_at(strip, a, TOS, body, p, o);
-    let c = push_link_tos_metric(strip, b, body, p, o);
+    let q = p + 4;
+    push_tos_entry(strip, at, &body[p..q], o + p as u32)
+}
+
+fn push_tos_entry(strip: &mut [u8], at: usize, tos: &[u8], o: u32) -> usize
+    requires { ⌜ at + 36 ≤ length (now strip) ⌝ }
+    requires { ⌜ 4 ≤ length (now tos) ⌝ }
+    requires { ⌜ o + length (now tos) < 4294967296 ⌝ }
+    ensures { λ r. ⌜ Wrote (now (strip .entry)) at (encode (linkTos (now (tos .entry)) o (record { at = 0; len = 4 }))) (now (strip .exit)) r ⌝ }
+{
+    let a = begin_container_at(strip, at, TOS_ENTRY, 0, 4, o);
+    let b = push_u8_at(strip, a, TOS, tos, 0, o);
+    let c = push_link_tos_metric(strip, b, tos, 0, o);
     end_container(strip, c)
 }
 

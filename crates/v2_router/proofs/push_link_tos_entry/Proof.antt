@@ -1,57 +1,51 @@
-use Rattle.format.specs.V2.{linkTos}
-use Rattle.format.specs.Strip.{code, encode, container}
-use Rattle.format.proofs.Wrote.{then}
+use Prim.Native.Nat.{_+_, _-_}
 use native.Mathlib.Omega.{arith}
+use mathlib.Core.Path.{_≡_}
+use Rattle.v2_router.proofs.Laws.{lent-tos}
 use borrow.Author.Needs.{needs}
 use Rattle.v2_router.proofs.push_link_tos_entry.Statement.{statement}
 use Rattle.v2_router.proofs.push_link_tos_entry.Tie as tie
 
-cast-start : tie.Need-cast-start
-cast-start c = search needs
+add-q : tie.Need-add-q
+add-q c = search needs
 
-add-start : tie.Need-add-start
-add-start c = search needs
+sub-push-tos-entry : tie.Need-sub-push-tos-entry
+sub-push-tos-entry c = search needs
 
-add-begin-container : tie.Need-add-begin-container
-add-begin-container c = search needs
+part-push-tos-entry-start : tie.Need-part-push-tos-entry-start
+part-push-tos-entry-start c = search needs
 
-begin-container-requires : tie.Need-begin-container-requires
-begin-container-requires c κs = search needs
+part-push-tos-entry-end : tie.Need-part-push-tos-entry-end
+part-push-tos-entry-end c = search needs
 
-push-u8-at-requires : tie.Need-push-u8-at-requires
-unfolding code encode
-push-u8-at-requires c κs = omega arith
+cast-push-tos-entry : tie.Need-cast-push-tos-entry
+cast-push-tos-entry c = search needs
 
-push-link-tos-metric-requires : tie.Need-push-link-tos-metric-requires
-unfolding code encode
-push-link-tos-metric-requires c κs = omega arith
+add-push-tos-entry : tie.Need-add-push-tos-entry
+add-push-tos-entry c = search needs
 
-end-container-requires : tie.Need-end-container-requires
-unfolding code encode
-end-container-requires c κs = omega arith
+push-tos-entry-requires : tie.Need-push-tos-entry-requires
+push-tos-entry-requires c κs = search needs
 
 same-length : tie.Need-same-length
 same-length c = search needs
 
 returns : tie.Need-returns
-unfolding code encode container linkTos
 returns c =
-    let k4 = c .before .before in
-    let k3 = k4 .before .before .before .before in
-    let k2 = k3 .before .before .before .before in
-    let k1 = k2 .before .before .before .before in
-    then (then (then (k1 .begin-container .ensures) (k2 .push-u8-at .ensures)) (k3 .push-link-tos-metric .ensures)) (k4 .end-container .ensures)
+    let a = c .before .before .before .before .before .before .before .args in
+    let z : a .p + 4 - a .p ≡ 4 = omega arith in
+    rw (z, lent-tos (a .body .now) (a .o) (a .p)) at (c .before .before .push-tos-entry .ensures)
 
 pub push-link-tos-entry-spec : {M : Type 1} → statement M
 push-link-tos-entry-spec =
     tie.close
     (tie.spec
-    cast-start
-    add-start
-    add-begin-container
-    begin-container-requires
-    push-u8-at-requires
-    push-link-tos-metric-requires
-    end-container-requires
+    add-q
+    sub-push-tos-entry
+    part-push-tos-entry-start
+    part-push-tos-entry-end
+    cast-push-tos-entry
+    add-push-tos-entry
+    push-tos-entry-requires
     same-length
     returns)

@@ -1,3 +1,4 @@
+use native.Mathlib.Nat.{add-zero}
 use Rattle.format.proofs.Lists.{contained}
 use Rattle.format.proofs.Wrote.{kept}
 use Rattle.format.specs.Walks.{headerObject}
@@ -19,15 +20,9 @@ cast-start c = search needs
 add-start : tie.Need-add-start
 add-start c = search needs
 
-cast-begin-container : tie.Need-cast-begin-container
-cast-begin-container c = search needs
-
-add-begin-container : tie.Need-add-begin-container
-add-begin-container c = search needs
-
-begin-container-requires : tie.Need-begin-container-requires
+begin-container-at-requires : tie.Need-begin-container-at-requires
 unfolding code
-begin-container-requires c κs =
+begin-container-at-requires c κs =
     let s = c .before .before .before in
     let d = s .args .data .now in
     let l = length-object (s .args .version) d (s .args .o) (s .args .pos) in
@@ -72,7 +67,8 @@ unfolding headerObject
 returns c =
     let s = c .before .before .before .before .before .before .before .before .before .before .before .before .before .before .before in
     let q : s .args .pos + 20 - s .args .pos ≡ 20 = omega arith in
-    contained 112 _ _ _ (c .before .before .before .before .before .before .before .before .before .before .before .begin-container .ensures) (rw q at (c .before .before .before .before .before .before .push-header-fields .ensures)) (c .before .before .end-container .ensures)
+    let w = rw (add-zero (s .args .o + s .args .pos)) at (c .before .before .before .before .before .before .before .before .before .before .before .begin-container-at .ensures) in
+    contained 112 _ _ _ w (rw q at (c .before .before .before .before .before .before .push-header-fields .ensures)) (c .before .before .end-container .ensures)
 
 pub push-header-spec : {M : Type 1} → statement M
 push-header-spec =
@@ -81,9 +77,7 @@ push-header-spec =
     add-q
     cast-start
     add-start
-    cast-begin-container
-    add-begin-container
-    begin-container-requires
+    begin-container-at-requires
     sub-push-header-fields
     part-push-header-fields-start
     part-push-header-fields-end

@@ -1,3 +1,4 @@
+use native.Mathlib.Nat.{add-zero}
 use Rattle.format.proofs.Lists.{contained}
 use Rattle.format.proofs.Wrote.{kept}
 use Rattle.format.specs.Walks.{lsaObject}
@@ -19,33 +20,27 @@ cast-start c = search needs
 add-start : tie.Need-add-start
 add-start c = search needs
 
-cast-begin-container : tie.Need-cast-begin-container
-cast-begin-container c = search needs
-
-add-begin-container : tie.Need-add-begin-container
-add-begin-container c = search needs
-
-begin-container-requires : tie.Need-begin-container-requires
+begin-container-at-requires : tie.Need-begin-container-at-requires
 unfolding code
-begin-container-requires c κs =
+begin-container-at-requires c κs =
     let s = c .before .before .before in
     let d = s .args .data .now in
     let l = length-lsa-object (s .args .version) d (s .args .o) (s .args .pos) (s .args .n) in
     let n = part-length d (s .args .pos) (s .args .n) (omega arith) in
     omega arith
 
-sub-push-lsa-fields : tie.Need-sub-push-lsa-fields
-sub-push-lsa-fields c = search needs
+sub-push-lsa-at : tie.Need-sub-push-lsa-at
+sub-push-lsa-at c = search needs
 
-part-push-lsa-fields-start : tie.Need-part-push-lsa-fields-start
-part-push-lsa-fields-start c = search needs
+part-push-lsa-at-start : tie.Need-part-push-lsa-at-start
+part-push-lsa-at-start c = search needs
 
-part-push-lsa-fields-end : tie.Need-part-push-lsa-fields-end
-part-push-lsa-fields-end c = search needs
+part-push-lsa-at-end : tie.Need-part-push-lsa-at-end
+part-push-lsa-at-end c = search needs
 
-push-lsa-fields-requires : tie.Need-push-lsa-fields-requires
+push-lsa-at-requires : tie.Need-push-lsa-at-requires
 unfolding code
-push-lsa-fields-requires c κs =
+push-lsa-at-requires c κs =
     let s = c .before .before .before .before .before .before .before .before in
     let d = s .args .data .now in
     let l = length-lsa-object (s .args .version) d (s .args .o) (s .args .pos) (s .args .n) in
@@ -61,7 +56,7 @@ end-container-requires c κs =
     let l = length-lsa-object (s .args .version) d (s .args .o) (s .args .pos) (s .args .n) in
     let n = part-length d (s .args .pos) (s .args .n) (omega arith) in
     let q : s .args .pos + s .args .n - s .args .pos ≡ s .args .n = omega arith in
-    let w = rw q at (c .before .before .before .push-lsa-fields .ensures) in
+    let w = rw q at (c .before .before .before .push-lsa-at .ensures) in
     omega (arith, w .place, kept w)
 
 same-length : tie.Need-same-length
@@ -72,7 +67,8 @@ unfolding lsaObject
 returns c =
     let s = c .before .before .before .before .before .before .before .before .before .before .before .before .before .before .before in
     let q : s .args .pos + s .args .n - s .args .pos ≡ s .args .n = omega arith in
-    contained 113 _ _ _ (c .before .before .before .before .before .before .before .before .before .before .before .begin-container .ensures) (rw q at (c .before .before .before .before .before .before .push-lsa-fields .ensures)) (c .before .before .end-container .ensures)
+    let w = rw (add-zero (s .args .o + s .args .pos)) at (c .before .before .before .before .before .before .before .before .before .before .before .begin-container-at .ensures) in
+    contained 113 _ _ _ w (rw q at (c .before .before .before .before .before .before .push-lsa-at .ensures)) (c .before .before .end-container .ensures)
 
 pub push-lsa-object-spec : {M : Type 1} → statement M
 push-lsa-object-spec =
@@ -81,13 +77,11 @@ push-lsa-object-spec =
     add-q
     cast-start
     add-start
-    cast-begin-container
-    add-begin-container
-    begin-container-requires
-    sub-push-lsa-fields
-    part-push-lsa-fields-start
-    part-push-lsa-fields-end
-    push-lsa-fields-requires
+    begin-container-at-requires
+    sub-push-lsa-at
+    part-push-lsa-at-start
+    part-push-lsa-at-end
+    push-lsa-at-requires
     end-container-requires
     same-length
     returns)

@@ -2,15 +2,6 @@ use borrow.Author.Needs.{needs}
 use Rattle.strip.proofs.push.push_ipv4_at.Statement.{statement}
 use Rattle.strip.proofs.push.push_ipv4_at.Tie as tie
 
-cast-start : tie.Need-cast-start
-cast-start c = search needs
-
-add-start : tie.Need-add-start
-add-start c = search needs
-
-add-push-ipv4 : tie.Need-add-push-ipv4
-add-push-ipv4 c = search needs
-
 read-ipv4-addr-requires : tie.Need-read-ipv4-addr-requires
 read-ipv4-addr-requires c κs = search needs
 
@@ -25,12 +16,4 @@ returns c = rw (c .before .before .before .read-ipv4-addr .ensures) at (c .befor
 
 pub push-ipv4-at-spec : {M : Type 1} → statement M
 push-ipv4-at-spec =
-    tie.close
-    (tie.spec
-    cast-start
-    add-start
-    add-push-ipv4
-    read-ipv4-addr-requires
-    push-ipv4-requires
-    same-length
-    returns)
+    tie.close (tie.spec read-ipv4-addr-requires push-ipv4-requires same-length returns)

@@ -4,8 +4,8 @@ use borrow.Author.Needs.{needs}
 use Rattle.strip.proofs.push.push_ipv6.Statement.{statement}
 use Rattle.strip.proofs.push.push_ipv6.Tie as tie
 
-put-head-requires : tie.Need-put-head-requires
-put-head-requires c κs = search needs
+put-head-at-requires : tie.Need-put-head-at-requires
+put-head-at-requires c κs = search needs
 
 put-u64-requires : tie.Need-put-u64-requires
 put-u64-requires c κs = search needs
@@ -22,8 +22,8 @@ returns c =
     let k3 = c .before .before in
     let k2 = k3 .before .before .before .before in
     let k1 = k2 .before .before .before .before in
-    then (then (k1 .put-head .ensures) (k2 .put-u64 .ensures)) (k3 .put-u642 .ensures)
+    then (then (k1 .put-head-at .ensures) (k2 .put-u64 .ensures)) (k3 .put-u642 .ensures)
 
 pub push-ipv6-spec : {M : Type 1} → statement M
 push-ipv6-spec =
-    tie.close (tie.spec put-head-requires put-u64-requires put-u64-requires-2 same-length returns)
+    tie.close (tie.spec put-head-at-requires put-u64-requires put-u64-requires-2 same-length returns)

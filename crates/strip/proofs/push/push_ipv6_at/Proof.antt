@@ -5,12 +5,6 @@ use borrow.Author.Needs.{needs}
 use Rattle.strip.proofs.push.push_ipv6_at.Statement.{statement}
 use Rattle.strip.proofs.push.push_ipv6_at.Tie as tie
 
-cast-start : tie.Need-cast-start
-cast-start c = search needs
-
-add-start : tie.Need-add-start
-add-start c = search needs
-
 add-q : tie.Need-add-q
 add-q c = search needs
 
@@ -38,12 +32,6 @@ slice-aggregate-read-be-u64-2 c = search needs
 read-be-u64-requires-2 : tie.Need-read-be-u64-requires-2
 read-be-u64-requires-2 c κs = search needs
 
-cast-push-ipv6 : tie.Need-cast-push-ipv6
-cast-push-ipv6 c = search needs
-
-add-push-ipv6 : tie.Need-add-push-ipv6
-add-push-ipv6 c = search needs
-
 push-ipv6-requires : tie.Need-push-ipv6-requires
 push-ipv6-requires c κs = search needs
 
@@ -60,8 +48,6 @@ pub push-ipv6-at-spec : {M : Type 1} → statement M
 push-ipv6-at-spec =
     tie.close
     (tie.spec
-    cast-start
-    add-start
     add-q
     sub-prefix-to-ipv6
     part-prefix-to-ipv6-start
@@ -71,8 +57,6 @@ push-ipv6-at-spec =
     read-be-u64-requires
     slice-aggregate-read-be-u64-2
     read-be-u64-requires-2
-    cast-push-ipv6
-    add-push-ipv6
     push-ipv6-requires
     same-length
     returns)

@@ -4,8 +4,8 @@ use borrow.Author.Needs.{needs}
 use Rattle.strip.proofs.push.push_u16.Statement.{statement}
 use Rattle.strip.proofs.push.push_u16.Tie as tie
 
-put-head-requires : tie.Need-put-head-requires
-put-head-requires c κs = search needs
+put-head-at-requires : tie.Need-put-head-at-requires
+put-head-at-requires c κs = search needs
 
 put-u16-requires : tie.Need-put-u16-requires
 put-u16-requires c κs = search needs
@@ -18,7 +18,7 @@ unfolding code
 returns c =
     let k2 = c .before .before in
     let k1 = k2 .before .before .before .before in
-    then (k1 .put-head .ensures) (k2 .put-u16 .ensures)
+    then (k1 .put-head-at .ensures) (k2 .put-u16 .ensures)
 
 pub push-u16-spec : {M : Type 1} → statement M
-push-u16-spec = tie.close (tie.spec put-head-requires put-u16-requires same-length returns)
+push-u16-spec = tie.close (tie.spec put-head-at-requires put-u16-requires same-length returns)

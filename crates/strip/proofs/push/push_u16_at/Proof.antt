@@ -2,15 +2,6 @@ use borrow.Author.Needs.{needs}
 use Rattle.strip.proofs.push.push_u16_at.Statement.{statement}
 use Rattle.strip.proofs.push.push_u16_at.Tie as tie
 
-cast-start : tie.Need-cast-start
-cast-start c = search needs
-
-add-start : tie.Need-add-start
-add-start c = search needs
-
-add-push-u16 : tie.Need-add-push-u16
-add-push-u16 c = search needs
-
 read-be-u16-requires : tie.Need-read-be-u16-requires
 read-be-u16-requires c κs = search needs
 
@@ -24,13 +15,4 @@ returns : tie.Need-returns
 returns c = rw (c .before .before .before .read-be-u16 .ensures) at (c .before .before .push-u16 .ensures)
 
 pub push-u16-at-spec : {M : Type 1} → statement M
-push-u16-at-spec =
-    tie.close
-    (tie.spec
-    cast-start
-    add-start
-    add-push-u16
-    read-be-u16-requires
-    push-u16-requires
-    same-length
-    returns)
+push-u16-at-spec = tie.close (tie.spec read-be-u16-requires push-u16-requires same-length returns)
