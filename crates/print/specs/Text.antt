@@ -9,7 +9,7 @@ use Rattle.format.specs.Walks as walks
 use Rattle.format.specs.Print.{lineRoom}
 use Rattle.strip.specs.declared.step.Entry.{Entry}
 use Rattle.strip.specs.declared.step.Entry.the-variants.{Open, Close, U8, U16, U32, Ipv4, Ipv6, Bytes}
-use Rattle.common.specs.declared.Answer.{Answer}
+use Rattle.answer.specs.declared.Answer.{Answer}
 
 abbrev pub entryOf : Entry → strip.Entry
 entryOf (Open i s e) = opens i s e

@@ -12,7 +12,7 @@ use crate::digits::put_hex;
 use crate::digits::put_place;
 use crate::digits::put_spaced;
 use crate::digits::put_word;
-use common::Answer;
+use answer::Answer;
 use strip::put::put_u8;
 use strip::step::Entry;
 

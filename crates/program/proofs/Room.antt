@@ -12,8 +12,8 @@ use Rattle.format.specs.Strip.{Entry, encode}
 use Rattle.format.specs.Walks as walks
 use Rattle.format.specs.Walks.{Outcome, answer, answerOf, stripOf}
 use Rattle.format.specs.Walks.Outcome.{refused, accepted}
-use Rattle.common.specs.Answers.{answered}
-use Rattle.common.specs.declared.Answer.{Answer}
+use Rattle.answer.specs.Answers.{answered}
+use Rattle.answer.specs.declared.Answer.{Answer}
 
 module _ (es : List Entry) (records tail : ℕ) (before : List ℕ) where
   done : (t : Bool) → ltb (length before) (length (encode es)) ≡ t → (a : walks.Answer) → a ≡ cond t (answer 5 (length (encode es)) 0 0) (answer 0 (length (encode es)) records tail)

@@ -4,7 +4,7 @@ ghost use Prim.Native.Nat.{_≤_};
 ghost use lib.ListN.{length};
 ghost use Rattle.format.specs.Walks.{answerOf, stripOf};
 ghost use Rattle.format.specs.Print.{countOf, walkOf, programOf};
-ghost use Rattle.common.specs.Answers.{answered};
+ghost use Rattle.answer.specs.Answers.{answered};
 use common::Answer;
 use common::push_lsa;
 use common::push_lsa_headers;

@@ -7,8 +7,8 @@ use mathlib.Core.List.{List}
 use lib.ListN.{length, getD, take, drop}
 use Rattle.format.specs.Bytes.{be32At, be64At}
 use Rattle.format.specs.Walks.{answer, answerOf, stripOf}
-use Rattle.common.specs.Answers.{answered}
-use Rattle.common.specs.declared.Answer.{Answer}
+use Rattle.answer.specs.Answers.{answered}
+use Rattle.answer.specs.declared.Answer.{Answer}
 use Rattle.stored.specs.Stored.{walkAt, roomAt, sizeAt}
 use Rattle.stored.specs.Agree.{agreesAt, lent, outcomeAt, sameAnswer, sameBytes, storedAnswer, storedBuffer, walkOf}
 use Rattle.stored.proofs.Bytes.{lent-length}

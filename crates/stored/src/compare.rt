@@ -4,7 +4,7 @@ ghost use mathlib.Core.Path.{_≡_};
 ghost use Prim.Native.Nat.{_+_, _≤_};
 ghost use lib.ListN.{length};
 ghost use Rattle.format.specs.Walks.{answer, answerOf, stripOf};
-ghost use Rattle.common.specs.Answers.{answered};
+ghost use Rattle.answer.specs.Answers.{answered};
 ghost use Rattle.stored.specs.Stored.{callSize, roomAt, keptAt};
 ghost use Rattle.stored.specs.Agree.{agreesAt, lent, sameAnswer, sameBytes, storedAnswer, storedBuffer, walkOf};
 use crate::ANSWER;

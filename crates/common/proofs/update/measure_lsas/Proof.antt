@@ -1,4 +1,5 @@
-use Rattle.common.proofs.Objects.{length-lsa-object, part-length, some-of, none-of}
+use Rattle.answer.proofs.Outer.{part-length}
+use Rattle.common.proofs.Objects.{length-lsa-object, some-of, none-of}
 use Rattle.format.proofs.Loop.{Measuring, spread, measure-begin, measure-turn, measure-finish}
 use Rattle.format.proofs.Rules.{inside}
 use Rattle.format.proofs.Unique.{cut-none, span}

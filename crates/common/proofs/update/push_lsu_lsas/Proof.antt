@@ -1,5 +1,5 @@
-use Rattle.common.specs.declared.Answer.{Answer}
-use Rattle.common.proofs.Objects.{length-outer}
+use Rattle.answer.specs.declared.Answer.{Answer}
+use Rattle.answer.proofs.Outer.{length-outer}
 use Rattle.format.proofs.Bounds.{leftover-bound}
 use Rattle.format.proofs.Refusals.{limits, walk-refused, walk-full, walk-done}
 use Rattle.format.specs.Walks.{updateOf, refusal, outer, lsaObject, lsas, unparsedId}

@@ -1,4 +1,4 @@
-use Rattle.common.proofs.Objects.{length-outer, outer-wrote}
+use Rattle.answer.proofs.Outer.{length-outer, outer-wrote}
 use Rattle.format.specs.Walks.{lsaObject, lsas, unparsedId}
 use Rattle.format.specs.Body.{leftover}
 use Rattle.format.specs.Strip.{code, encode}

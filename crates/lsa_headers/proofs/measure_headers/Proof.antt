@@ -1,0 +1,94 @@
+use Rattle.answer.proofs.Outer.{part-length}
+use Rattle.lsa_headers.proofs.Objects.{length-object}
+use Rattle.format.proofs.Lists.{fixed-stands}
+use Rattle.format.proofs.Loop.{Measuring, spread, measure-begin, measure-turn, measure-finish}
+use Rattle.format.proofs.Unique.{span}
+use Rattle.format.specs.Walks.{headerObject}
+use Rattle.format.specs.Cut.{cut, fixedRule}
+use Rattle.format.specs.Strip.{encode}
+use lib.ListN.{length}
+use native.Mathlib.Omega.{arith}
+use mathlib.Core.Path.{_≡_, refl}
+use Prim.Native.Nat.{ℕ, _+_, _-_, _*_, _≤_}
+use Rattle.lsa_headers.proofs.measure_headers.Statement.{statement}
+use Rattle.lsa_headers.proofs.measure_headers.Tie as tie
+
+abbrev Inv-loop : tie.InvT-loop
+Inv-loop version «data» count total₀ pos₀ left₀ total pos left = ((o : ℕ) → Measuring (fixedRule 20) (headerObject version «data» o) «data» count 0 total pos left) × (pos + left * 20 ≤ length «data») × (total + left * 136 ≤ count * 136)
+
+abbrev μ-loop : tie.MeasureT-loop
+μ-loop version «data» count total₀ pos₀ left₀ total pos left = left
+
+loop-holds : tie.Need-loop-holds Inv-loop μ-loop
+loop-holds c = (λ o. measure-begin (fixedRule 20) _ _ _ 0, omega arith, omega arith)
+
+add-q : tie.Need-add-q Inv-loop μ-loop
+add-q c = omega arith
+
+add-total : tie.Need-add-total Inv-loop μ-loop
+add-total c = omega arith
+
+sub-measure-header : tie.Need-sub-measure-header Inv-loop μ-loop
+sub-measure-header c = omega arith
+
+part-measure-header-start : tie.Need-part-measure-header-start Inv-loop μ-loop
+part-measure-header-start c = omega arith
+
+part-measure-header-end : tie.Need-part-measure-header-end Inv-loop μ-loop
+part-measure-header-end c = omega arith
+
+measure-header-requires : tie.Need-measure-header-requires Inv-loop μ-loop
+measure-header-requires c κs =
+    let p = c .before .before .loop .pos in
+    let q : p + 20 - p ≡ 20 = omega arith in
+    let n = part-length (c .before .before .before .before .args .data .now) p 20 (omega arith) in
+    rw q (omega arith)
+
+add-total-2 : tie.Need-add-total-2 Inv-loop μ-loop
+add-total-2 c = omega arith
+
+sub-left : tie.Need-sub-left Inv-loop μ-loop
+sub-left c = omega arith
+
+loop-less : tie.Need-loop-less Inv-loop μ-loop
+loop-less c = omega arith
+
+loop-again : tie.Need-loop-again Inv-loop μ-loop
+loop-again c =
+    let s = c .before .before .before .before .before .args in
+    let d = s .data .now in
+    let l = c .before .before .before .loop in
+    let p = l .pos in
+    let q : p + 20 - p ≡ 20 = omega arith in
+    let m = rw q at (c .measure-header .ensures .0) in (
+      λ o.
+          let t : l .total + 11 + c .measure-header .result ≡ l .total + length (encode (headerObject (s .version) d o (span p 20))) = omega (arith, length-object (s .version) d o p, m (o + p)) in
+          rw t (measure-turn (fixedRule 20) (headerObject (s .version) d o) d _ 0 20 (l .inv .0 o) (c .before .before .loop-test .taken) (fixed-stands 20 d p (omega arith))),
+      omega arith,
+      omega arith,
+    )
+
+returns : tie.Need-returns Inv-loop μ-loop
+unfolding spread cut
+returns c =
+    let z : c .before .loop .left ≡ 0 = omega arith in
+    (λ o. measure-finish (fixedRule 20) _ _ _ 0 (c .before .loop .inv .0 o) (rw z refl) .0, omega arith)
+
+pub measure-headers-spec : {M : Type 1} → statement M
+measure-headers-spec =
+    tie.close
+    (tie.spec
+    Inv-loop
+    μ-loop
+    loop-holds
+    add-q
+    add-total
+    sub-measure-header
+    part-measure-header-start
+    part-measure-header-end
+    measure-header-requires
+    add-total-2
+    sub-left
+    loop-less
+    loop-again
+    returns)

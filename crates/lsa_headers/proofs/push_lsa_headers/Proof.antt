@@ -1,0 +1,189 @@
+use Rattle.answer.specs.declared.Answer.{Answer}
+use Rattle.answer.proofs.Outer.{length-outer}
+use Rattle.lsa_headers.proofs.Objects.{headers-after, headers-cut}
+use Rattle.format.proofs.Bounds.{leftover-bound}
+use Rattle.format.proofs.Lists.{whole-count}
+use Rattle.format.proofs.Refusals.{limits, walk-refused, walk-full, walk-done}
+use Rattle.format.specs.Walks.{headersOf, refusal, outer, headerObject, headers, unparsedId}
+use Rattle.format.specs.Body.{leftover}
+use Rattle.format.specs.Cut.{Span, after}
+use Rattle.format.specs.Strip.{encode}
+use lib.ListN.{length}
+use native.Mathlib.Omega.{arith}
+use mathlib.Core.List.{List, flatMap}
+use mathlib.Core.Path.{_≡_, refl, sym, ap, _∙_}
+use Prim.Native.Nat.{ℕ, _+_, _-_, _*_, _/_}
+use borrow.Author.Needs.{needs}
+use Rattle.lsa_headers.proofs.push_lsa_headers.Statement.{statement}
+use Rattle.lsa_headers.proofs.push_lsa_headers.Tie as tie
+
+refusal-of-requires : tie.Need-refusal-of-requires
+refusal-of-requires c κs = search needs
+
+refused-requires : tie.Need-refused-requires
+refused-requires c κs = search needs
+
+returns : tie.Need-returns
+unfolding headersOf
+returns c =
+    let s = c .before .before .before .before .before in
+    let v = s .args .version in
+    let d = s .args .data .now in
+    let o = s .args .offset in
+    let before = s .args .strip .now in
+    let n = refusal v d o 0 in
+    let e = c .before .before .refusal-of .ensures in
+    let w = walk-refused n (outer v (headerObject v d o) d o 0 (headers d)) (length (headers d)) (length d - after 0 (headers d)) before (λ x. c .before .if1 .taken (e ∙ x)) in
+    let f = ap (λ (a : Answer). a .length) (c .refused .ensures) in
+    (rw (w .0, sym e) (c .refused .ensures), (sym (w .1), omega arith))
+
+mul-end : tie.Need-mul-end
+mul-end c = search needs
+
+measure-headers-requires : tie.Need-measure-headers-requires
+measure-headers-requires c κs =
+    let s = c .before .before .before .before in
+    let v = s .args .version in
+    let d = s .args .data .now in
+    let o = s .args .offset in
+    let before = s .args .strip .now in
+    let n = refusal v d o 0 in
+    let e = c .before .refusal-of .ensures in
+    let z : refusal v d o 0 ≡ 0 = sym e ∙ c .if1 .left in
+    let m = limits v d o 0 z in
+    omega arith
+
+add-length : tie.Need-add-length
+add-length c =
+    let s = c .before .before .before .before .before in
+    let v = s .args .version in
+    let d = s .args .data .now in
+    let o = s .args .offset in
+    let before = s .args .strip .now in
+    let n = refusal v d o 0 in
+    let e = c .before .before .refusal-of .ensures in
+    let z : refusal v d o 0 ≡ 0 = sym e ∙ c .before .if1 .left in
+    let m = limits v d o 0 z in
+    omega arith
+
+measure-unparsed-requires : tie.Need-measure-unparsed-requires
+measure-unparsed-requires c κs = search needs
+
+add-length-2 : tie.Need-add-length-2
+add-length-2 c =
+    let s = c .before .before .before .before .before .before in
+    let v = s .args .version in
+    let d = s .args .data .now in
+    let o = s .args .offset in
+    let before = s .args .strip .now in
+    let n = refusal v d o 0 in
+    let e = c .before .before .before .refusal-of .ensures in
+    let z : refusal v d o 0 ≡ 0 = sym e ∙ c .before .before .if1 .left in
+    let m = limits v d o 0 z in
+    omega (arith, c .measure-unparsed .ensures 0 0, leftover-bound 0 d 0 (length d / 20 * 20))
+
+no-room-requires : tie.Need-no-room-requires
+no-room-requires c κs = search needs
+
+returns-2 : tie.Need-returns-2
+unfolding headersOf
+returns-2 c =
+    let s = c .before .before .before .before .before .before .before .before in
+    let v = s .args .version in
+    let d = s .args .data .now in
+    let o = s .args .offset in
+    let before = s .args .strip .now in
+    let n = refusal v d o 0 in
+    let e = c .before .before .before .before .before .refusal-of .ensures in
+    let z : refusal v d o 0 ≡ 0 = sym e ∙ c .before .before .before .before .if1 .left in
+    let m = limits v d o 0 z in
+    let q = headers-after d (length d / 20) refl in
+    let k = headers-cut d (length d / 20) refl in
+    let l = length-outer v (headerObject v d o) d o 0 (headers d) in
+    let f = ap (λ (ss : List Span). length (encode (flatMap (headerObject v d o) ss))) k in
+    let t = ap (λ (x : ℕ). length (encode (leftover (unparsedId v) d o x))) q in
+    let size : c .before .before .before .measure-headers .result + 11 + c .before .before .measure-unparsed .result ≡ length (encode (outer v (headerObject v d o) d o 0 (headers d))) = omega (arith, c .before .before .before .measure-headers .ensures .0 o, c .before .before .measure-unparsed .ensures (unparsedId v) o) in
+    let w = walk-full n (outer v (headerObject v d o) d o 0 (headers d)) (length (headers d)) (length d - after 0 (headers d)) before z (omega arith) in
+    let f = ap (λ (a : Answer). a .length) (c .no-room .ensures) in
+    (rw (w .0, ← size) (c .no-room .ensures), (sym (w .1), omega (arith, c .before .before .measure-unparsed .ensures 0 0, leftover-bound 0 d 0 (length d / 20 * 20))))
+
+cast-write-headers : tie.Need-cast-write-headers
+cast-write-headers c =
+    let s = c .before .before .before .before .before .before .before .before in
+    let v = s .args .version in
+    let d = s .args .data .now in
+    let o = s .args .offset in
+    let before = s .args .strip .now in
+    let n = refusal v d o 0 in
+    let e = c .before .before .before .before .before .refusal-of .ensures in
+    let z : refusal v d o 0 ≡ 0 = sym e ∙ c .before .before .before .before .if1 .left in
+    let m = limits v d o 0 z in
+    omega arith
+
+write-headers-requires : tie.Need-write-headers-requires
+write-headers-requires c κs =
+    let s = c .before .before .before .before .before .before .before .before in
+    let v = s .args .version in
+    let d = s .args .data .now in
+    let o = s .args .offset in
+    let before = s .args .strip .now in
+    let n = refusal v d o 0 in
+    let e = c .before .before .before .before .before .refusal-of .ensures in
+    let z : refusal v d o 0 ≡ 0 = sym e ∙ c .before .before .before .before .if1 .left in
+    let m = limits v d o 0 z in
+    let q = headers-after d (length d / 20) refl in
+    let k = headers-cut d (length d / 20) refl in
+    let l = length-outer v (headerObject v d o) d o 0 (headers d) in
+    let f = ap (λ (ss : List Span). length (encode (flatMap (headerObject v d o) ss))) k in
+    let t = ap (λ (x : ℕ). length (encode (leftover (unparsedId v) d o x))) q in
+    let size : c .before .before .before .measure-headers .result + 11 + c .before .before .measure-unparsed .result ≡ length (encode (outer v (headerObject v d o) d o 0 (headers d))) = omega (arith, c .before .before .before .measure-headers .ensures .0 o, c .before .before .measure-unparsed .ensures (unparsedId v) o) in
+    omega arith
+
+sub-t10 : tie.Need-sub-t10
+sub-t10 c = search needs
+
+same-length : tie.Need-same-length
+same-length c = search needs
+
+returns-3 : tie.Need-returns-3
+unfolding headersOf
+returns-3 c =
+    let s = c .before .before .before .before .before .before .before .before .before .before .before in
+    let v = s .args .version in
+    let d = s .args .data .now in
+    let o = s .args .offset in
+    let before = s .args .strip .now in
+    let n = refusal v d o 0 in
+    let e = c .before .before .before .before .before .before .before .before .refusal-of .ensures in
+    let z : refusal v d o 0 ≡ 0 = sym e ∙ c .before .before .before .before .before .before .before .if1 .left in
+    let m = limits v d o 0 z in
+    let q = headers-after d (length d / 20) refl in
+    let k = headers-cut d (length d / 20) refl in
+    let l = length-outer v (headerObject v d o) d o 0 (headers d) in
+    let f = ap (λ (ss : List Span). length (encode (flatMap (headerObject v d o) ss))) k in
+    let t = ap (λ (x : ℕ). length (encode (leftover (unparsedId v) d o x))) q in
+    let size : c .before .before .before .before .before .before .measure-headers .result + 11 + c .before .before .before .before .before .measure-unparsed .result ≡ length (encode (outer v (headerObject v d o) d o 0 (headers d))) = omega (arith, c .before .before .before .before .before .before .measure-headers .ensures .0 o, c .before .before .before .before .before .measure-unparsed .ensures (unparsedId v) o) in
+    let w = walk-done n (outer v (headerObject v d o) d o 0 (headers d)) (length (headers d)) (length d - after 0 (headers d)) before z (omega arith) in
+    let r = whole-count 20 d 0 (omega arith) in
+    let rc : length (headers d) ≡ length d / 20 = r ∙ omega arith in
+    (rw (w .0, ← size, rc, q) refl, (c .before .before .write-headers .ensures .contents ∙ sym (w .1), omega (arith, c .before .before .before .before .before .measure-unparsed .ensures 0 0, leftover-bound 0 d 0 (length d / 20 * 20))))
+
+pub push-lsa-headers-spec : {M : Type 1} → statement M
+push-lsa-headers-spec =
+    tie.close
+    (tie.spec
+    refusal-of-requires
+    refused-requires
+    returns
+    mul-end
+    measure-headers-requires
+    add-length
+    measure-unparsed-requires
+    add-length-2
+    no-room-requires
+    returns-2
+    cast-write-headers
+    write-headers-requires
+    sub-t10
+    same-length
+    returns-3)

@@ -1,0 +1,29 @@
+use Rattle.v3_lsa.proofs.Bounds.{lsa-bound as bound3}
+use Rattle.v2_lsa.proofs.Bounds.{lsa-bound as bound2}
+use native.Mathlib.Omega.{arith}
+use borrow.Author.Tests.{eq-eqb, ne-eqb}
+use borrow.Author.Needs.{needs}
+use Rattle.single_lsa.proofs.measure_lsa.Statement.{statement}
+use Rattle.single_lsa.proofs.measure_lsa.Tie as tie
+
+measure-lsa-requires : tie.Need-measure-lsa-requires
+measure-lsa-requires c κs = search needs
+
+measure-lsa-requires-2 : tie.Need-measure-lsa-requires-2
+measure-lsa-requires-2 c κs = search needs
+
+returns : tie.Need-returns
+returns c =
+    let t = eq-eqb (c .before .before .before .args .version) 2 (c .before .if1 .taken) in
+    let d = c .before .before .before .args .lsa .now in
+    (λ o. rw t (c .measure-lsa .ensures .0 o), (rw t (c .measure-lsa .ensures .1), omega (arith, c .measure-lsa .ensures .0 0, bound2 d 0 (omega arith))))
+
+returns-2 : tie.Need-returns-2
+returns-2 c =
+    let t = ne-eqb (c .before .before .before .args .version) 2 (c .before .if1 .left) in
+    let d = c .before .before .before .args .lsa .now in
+    (λ o. rw t (c .measure-lsa2 .ensures .0 o), (rw t (c .measure-lsa2 .ensures .1), omega (arith, c .measure-lsa2 .ensures .0 0, bound3 d 0 (omega arith))))
+
+pub measure-lsa-spec : {M : Type 1} → statement M
+measure-lsa-spec =
+    tie.close (tie.spec measure-lsa-requires measure-lsa-requires-2 returns returns-2)
