@@ -36,12 +36,13 @@ pub fn push_lsa_header_fields(strip: &mut [u8], at: usize, body: &[u8], o: u32) 
     requires { ⌜ o + length (now body) < 4294967296 ⌝ }
     ensures { λ r. ⌜ Wrote (now (strip .entry)) at (encode (headerEntries3 (now (body .entry)) o)) (now (strip .exit)) r ⌝ }
 {
-    let a = push_identity_fields(strip, at, body, o);
-    push_instance_fields(strip, a, LS_SEQUENCE_NUMBER, body, o)
+    // Lent anew: a slice that is handed on as it came is read again after every store.
+    let header = &body[..];
+    let a = push_identity_fields(strip, at, header, o);
+    push_instance_fields(strip, a, LS_SEQUENCE_NUMBER, header, o)
 }
 
-// The same of an LSA. The header's bytes are lent by themselves: a slice that is handed on as it came is copied by every
-// call.
+// The same of an LSA. The strip is lent from its place on: a store at one address takes less than one at a sum of two.
 pub fn push_lsa_header(strip: &mut [u8], at: usize, lsa: &[u8], o: u32) -> usize
     requires { ⌜ at + length (encode (headerEntries3 (now lsa) o)) ≤ length (now strip) ⌝ }
     requires { ⌜ headerSize ≤ length (now lsa) ⌝ }

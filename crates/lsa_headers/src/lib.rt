@@ -135,6 +135,7 @@ fn push_header(strip: &mut [u8], at: usize, version: u8, data: &[u8], pos: usize
     end_container(strip, b)
 }
 
+// The strip is lent from its place on: a store at one address takes less than one at a sum of two.
 fn push_header_fields(strip: &mut [u8], at: usize, version: u8, header: &[u8], o: u32) -> usize
     requires { ⌜ at + length (encode (headerEntries version (now header) o)) ≤ length (now strip) ⌝ }
     requires { ⌜ headerSize ≤ length (now header) ⌝ }
@@ -142,8 +143,8 @@ fn push_header_fields(strip: &mut [u8], at: usize, version: u8, header: &[u8], o
     ensures { λ r. ⌜ Wrote (now (strip .entry)) at (encode (headerEntries version (now (header .entry)) o)) (now (strip .exit)) r ⌝ }
 {
     if version == 2 {
-        at + v2::push_lsa_header_fields(&mut strip[at..], 0, &header[..], o)
+        at + v2::push_lsa_header_fields(&mut strip[at..], 0, header, o)
     } else {
-        at + v3::push_lsa_header_fields(&mut strip[at..], 0, &header[..], o)
+        at + v3::push_lsa_header_fields(&mut strip[at..], 0, header, o)
     }
 }

@@ -51,7 +51,7 @@ pub fn measure_lsa(version: u8, lsa: &[u8]) -> Lsa
     }
 }
 
-// The LSA is lent anew: a slice that is handed on as it came is copied by the call.
+// The LSA is lent anew: a slice that is handed on as it came is read again after every store.
 pub fn push_lsa_fields(strip: &mut [u8], at: usize, version: u8, lsa: &[u8], o: u32) -> usize
     requires { ⌜ at + length (encode (lsaEntries version (now lsa) o)) ≤ length (now strip) ⌝ }
     requires { ⌜ headerSize ≤ length (now lsa) ⌝ }
@@ -65,7 +65,7 @@ pub fn push_lsa_fields(strip: &mut [u8], at: usize, version: u8, lsa: &[u8], o: 
     }
 }
 
-// The same from a place on. The strip is lent from there on: a store at one address takes less than one at a sum of two.
+// The same, with the strip lent from its place on: a store at one address takes less than one at a sum of two.
 pub fn push_lsa_at(strip: &mut [u8], at: usize, version: u8, lsa: &[u8], o: u32) -> usize
     requires { ⌜ at + length (encode (lsaEntries version (now lsa) o)) ≤ length (now strip) ⌝ }
     requires { ⌜ headerSize ≤ length (now lsa) ⌝ }
