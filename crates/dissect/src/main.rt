@@ -1,7 +1,7 @@
 // The program: reads version, walk and data from standard input, and prints the strip's entries, a line each.
-use print::lines::LINE;
-use print::lines::answer_line;
-use print::lines::entry_line;
+use print::LINE;
+use print::answer_line;
+use print::entry_line;
 use program::MAX_INPUT;
 use program::run;
 use reader::step_from;

@@ -2,8 +2,8 @@
 ghost use mathlib.Core.Path.{_≡_};
 ghost use Prim.Native.Nat.{_+_, _≤_};
 ghost use lib.ListN.{length};
-use print::lines::LINE;
-use print::lines::entry_line;
+use print::LINE;
+use print::entry_line;
 use strip::push::begin_container;
 use strip::push::end_container;
 use strip::push::push_bit_at;

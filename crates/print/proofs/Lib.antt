@@ -1,1 +1,1 @@
-pub mod Numerals
+pub mod Room

@@ -1,2 +1,1 @@
 pub mod Stored
-pub mod Agree

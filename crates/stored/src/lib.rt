@@ -1,19 +1,15 @@
-// A stored call (samples/README.md has the format): whether one stands whole at a place of a file, how long it is, and
-// whether it agrees with the walks of crate common.
+// A stored call (samples/README.md has the format): whether one stands whole at a place of a file, how long it is, and of
+// which walk and number it is.
 ghost use mathlib.Core.Path.{_≡_};
 ghost use Prim.Native.Nat.{_+_, _≤_};
 ghost use lib.ListN.{length};
 ghost use Rattle.stored.specs.Stored.{callRule, callSize, isCall, isOf, keptAt, sizeAt, fitOf};
 use util::read_be_u32;
 
-mod compare;
-
-pub use compare::agrees;
-
 // The bytes before the data, and those of the answer after it.
-const CALL: usize = 22;
+pub const CALL: usize = 22;
 
-const ANSWER: usize = 13;
+pub const ANSWER: usize = 13;
 
 const WALKS: u8 = 2;
 
@@ -48,7 +44,7 @@ pub fn call_fits(file: &[u8], pos: usize, most: usize) -> Fit
 }
 
 // The length of the strip that is stored after the answer at q.
-fn kept_at(file: &[u8], q: usize) -> usize
+pub fn kept_at(file: &[u8], q: usize) -> usize
     requires { ⌜ q + 13 ≤ length (now file) ⌝ }
     ensures { λ r. ⌜ r ≡ keptAt (now (file .entry)) q ⌝ }
 {

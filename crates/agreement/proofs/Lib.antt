@@ -1,0 +1,3 @@
+-- Laws of comparing a stored call with the walks.
+mod Replayed
+pub mod Meaning

@@ -1,0 +1,129 @@
+use native.Mathlib.Omega.{arith}
+use mathlib.Core.Path.{_≡_, sym, ap, _∙_}
+use lib.ListN.{length}
+use borrow.Author.Tests.{not-true, not-false}
+use Rattle.stored.specs.Stored.{roomAt, sizeAt}
+use Rattle.expected.specs.Expected.{lent}
+use Rattle.agreement.proofs.Replayed.{Ran, answer-differs, answer-agrees}
+use borrow.Author.Needs.{needs}
+use Rattle.agreement.proofs.agrees_in.Statement.{statement}
+use Rattle.agreement.proofs.agrees_in.Tie as tie
+
+add-read-be-u32 : tie.Need-add-read-be-u32
+add-read-be-u32 c = search needs
+
+read-be-u32-requires : tie.Need-read-be-u32-requires
+read-be-u32-requires c κs = search needs
+
+cast-size : tie.Need-cast-size
+cast-size c = search needs
+
+add-start : tie.Need-add-start
+add-start c = search needs
+
+add-q : tie.Need-add-q
+add-q c = search needs
+
+add-read-be-u32-2 : tie.Need-add-read-be-u32-2
+add-read-be-u32-2 c = search needs
+
+read-be-u32-requires-2 : tie.Need-read-be-u32-requires-2
+read-be-u32-requires-2 c κs = search needs
+
+add-read-be-u64 : tie.Need-add-read-be-u64
+add-read-be-u64 c = search needs
+
+read-be-u64-requires : tie.Need-read-be-u64-requires
+read-be-u64-requires c κs = search needs
+
+fill-requires : tie.Need-fill-requires
+fill-requires c κs = search needs
+
+add-run : tie.Need-add-run
+add-run c = search needs
+
+shared-slice-read-run : tie.Need-shared-slice-read-run
+shared-slice-read-run c = search needs
+
+shared-slice-read-run-2 : tie.Need-shared-slice-read-run-2
+shared-slice-read-run-2 c = search needs
+
+sub-run : tie.Need-sub-run
+sub-run c = search needs
+
+part-run-start : tie.Need-part-run-start
+part-run-start c = search needs
+
+part-run-end : tie.Need-part-run-end
+part-run-end c = search needs
+
+run-requires : tie.Need-run-requires
+run-requires c κs = search needs
+
+is-answer-requires : tie.Need-is-answer-requires
+is-answer-requires c κs = search needs
+
+same-length : tie.Need-same-length
+same-length c = search needs
+
+-- the walk was called as the stored call says
+ran : (c : tie.After-slice-known3) → Ran (c .before .before .before .before .before .before .before .before .before .before .before .before .before .before .before .before .args .file .now) (c .before .before .before .before .before .before .before .before .before .before .before .before .before .before .before .before .args .pos) (c .before .before .before .before .before .before .before .before .before .before .before .before .before .read-be-u32 .result) (c .before .before .before .before .before .before .before .before .before .before .before .before .read-be-u322 .result) (c .before .before .before .before .before .before .before .before .before .before .before .read-be-u64 .result) (c .before .before .before .before .before .before .before .before .before .fill .last .0) (c .before .before .run .last .1 .1 .1 .1 .1 .0) (c .before .before .run .result)
+ran c = record {
+  sized = c .before .before .before .before .before .before .before .before .before .before .before .before .before .read-be-u32 .ensures;
+  counted = c .before .before .before .before .before .before .before .before .before .before .before .before .read-be-u322 .ensures;
+  placed = c .before .before .before .before .before .before .before .before .before .before .before .read-be-u64 .ensures;
+  filled = c .before .before .before .before .before .before .before .before .before .fill .ensures ∙ ap lent (sym (c .before .before .before .before .before .before .before .before .before .before .before .before .before .before .before .before .pre .1));
+  said = c .before .before .run .ensures .0;
+  left = c .before .before .run .ensures .1;
+}
+
+returns : tie.Need-returns
+returns c =
+    let s = c .before .before .before .before .before .before .before .before .before .before .before .before .before .before .before .before .before .before .args in
+    sym (answer-differs (s .file .now) (s .pos) (ran (c .before .before)) (c .before .is-answer .ensures) (not-true _ (c .if1 .taken)))
+
+is-buffer-requires : tie.Need-is-buffer-requires
+is-buffer-requires c κs =
+    let s = c .before .before .before .before .before .before .before .before .before .before .before .before .before .before .before .before .before .before .before .args .strip .now in
+    let f = c .before .before .before .before .before .before .before .before .before .before .before .before .before .before .before .before .before .before .before .args .file .now in
+    let p = c .before .before .before .before .before .before .before .before .before .before .before .before .before .before .before .before .before .before .before .args .pos in
+    let n : c .before .before .before .before .before .before .before .before .before .before .before .before .before .before .before .before .read-be-u32 .result ≡ sizeAt f p = c .before .before .before .before .before .before .before .before .before .before .before .before .before .before .before .before .read-be-u32 .ensures in
+    rw n (omega (arith, c .before .before .before .before .before .before .before .before .before .before .before .before .before .before .before .before .before .before .before .pre .0))
+
+same-length-2 : tie.Need-same-length-2
+same-length-2 c = search needs
+
+returns-2 : tie.Need-returns-2
+returns-2 c =
+    let s = c .before .before .before .before .before .before .before .before .before .before .before .before .before .before .before .before .before .before .before .before .args in
+    let f = s .file .now in
+    let n : length (c .before .before .before .before .before .before .run .last .1 .1 .1 .1 .1 .0) ≡ roomAt f (s .pos) = omega (arith, c .before .before .before .before .before .before .run .kept, c .before .before .before .before .before .before .before .before .before .before .before .before .before .fill .kept, c .before .before .before .before .before .before .before .before .before .before .before .before .before .before .before .before .before .before .before .before .pre .1) in
+    answer-agrees f (s .pos) (ran (c .before .before .before .before)) (c .before .before .before .is-answer .ensures) (not-false _ (c .before .before .if1 .left)) n (c .is-buffer .ensures)
+
+pub agrees-in-spec : {M : Type 1} → statement M
+agrees-in-spec =
+    tie.close
+    (tie.spec
+    add-read-be-u32
+    read-be-u32-requires
+    cast-size
+    add-start
+    add-q
+    add-read-be-u32-2
+    read-be-u32-requires-2
+    add-read-be-u64
+    read-be-u64-requires
+    fill-requires
+    add-run
+    shared-slice-read-run
+    shared-slice-read-run-2
+    sub-run
+    part-run-start
+    part-run-end
+    run-requires
+    is-answer-requires
+    same-length
+    returns
+    is-buffer-requires
+    same-length-2
+    returns-2)

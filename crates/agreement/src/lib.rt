@@ -1,0 +1,80 @@
+// One stored call, replayed: the walk is called on a buffer that was filled, and its answer and every byte of the buffer
+// are compared with what is stored.
+ghost use mathlib.Core.Path.{_≡_};
+ghost use Prim.Native.Nat.{_+_, _≤_};
+ghost use lib.ListN.{length};
+ghost use Rattle.format.specs.Walks.{answerOf, stripOf};
+ghost use Rattle.answer.specs.Answers.{answered};
+ghost use Rattle.stored.specs.Stored.{callSize, roomAt};
+ghost use Rattle.expected.specs.Expected.{lent};
+ghost use Rattle.agreement.specs.Agree.{agreesAt, walkOf};
+use answer::Answer;
+use common::push_lsa;
+use common::push_lsa_headers;
+use common::push_lsu_lsas;
+use expected::FILL;
+use expected::is_answer;
+use expected::is_buffer;
+use stored::CALL;
+use util::read_be_u32;
+use util::read_be_u64;
+
+// Whether the call that stands at a place agrees with the walks. The strip's buffer has at least the call's room; what is
+// left in it is not told.
+pub fn agrees(file: &[u8], pos: usize, strip: &mut [u8]) -> bool
+    requires { ⌜ pos + callSize (now file) pos ≤ length (now file) ⌝ }
+    requires { ⌜ roomAt (now file) pos ≤ length (now strip) ⌝ }
+    ensures { λ r. ⌜ r ≡ agreesAt (now (file .entry)) pos ⌝ }
+{
+    let room = read_be_u32(file, pos + 14) as usize;
+    agrees_in(file, pos, &mut strip[..room])
+}
+
+// The same, where the strip's buffer has exactly the call's room.
+fn agrees_in(file: &[u8], pos: usize, strip: &mut [u8]) -> bool
+    requires { ⌜ pos + callSize (now file) pos ≤ length (now file) ⌝ }
+    requires { ⌜ roomAt (now file) pos ≡ length (now strip) ⌝ }
+    ensures { λ r. ⌜ r ≡ agreesAt (now (file .entry)) pos ⌝ }
+{
+    let size = read_be_u32(file, pos + 18) as usize;
+    let start = pos + CALL;
+    let q = start + size;
+    let count = read_be_u32(file, pos + 2);
+    let offset = read_be_u64(file, pos + 6);
+    fill(strip);
+    let answer = run(
+        file[pos + 1],
+        file[pos],
+        &file[start..q],
+        count,
+        offset,
+        strip,
+    );
+    if !is_answer(answer, file, q) {
+        return false;
+    }
+    is_buffer(strip, file, q)
+}
+
+fn run(walk: u8, version: u8, data: &[u8], count: u32, offset: u64, strip: &mut [u8]) -> Answer
+    ensures { λ r. ⌜ r ≡ answered (answerOf (walkOf walk version (now («data» .entry)) count offset) (length (now (strip .entry)))) ⌝ }
+    ensures { λ r. ⌜ now (strip .exit) ≡ stripOf (walkOf walk version (now («data» .entry)) count offset) (now (strip .entry)) ⌝ }
+{
+    if walk == 0 {
+        return push_lsa_headers(version, data, offset, strip);
+    }
+    if walk == 1 {
+        return push_lsu_lsas(version, data, count, offset, strip);
+    }
+    push_lsa(version, data, offset, strip)
+}
+
+fn fill(strip: &mut [u8])
+    ensures { λ r. ⌜ now (strip .exit) ≡ lent (length (now (strip .entry))) ⌝ }
+{
+    let mut i: usize = 0;
+    while i < strip.len() {
+        strip[i] = FILL;
+        i = i + 1;
+    }
+}

@@ -1,0 +1,108 @@
+use borrow.Author.Tests.{not-true, not-false}
+use Prim.Native.Nat.{_+_, _-_}
+use native.Mathlib.Omega.{arith}
+use mathlib.Core.Path.{_≡_, sym, _∙_}
+use lib.ListN.{length, take, drop, length-append, length-drop}
+use lib.Seq.{length-take-le, take-all}
+use Rattle.format.specs.Bytes.{part}
+use Rattle.stored.specs.Stored.{keptAt}
+use Rattle.expected.specs.Expected.{lent, sameBytes, storedBuffer}
+use Rattle.expected.proofs.Bytes.{part-length, same-lengths, same-parts}
+use borrow.Author.Needs.{needs}
+use Rattle.expected.proofs.is_buffer.Statement.{statement}
+use Rattle.expected.proofs.is_buffer.Tie as tie
+
+kept-at-requires : tie.Need-kept-at-requires
+kept-at-requires c κs = search needs
+
+returns : tie.Need-returns
+returns c =
+    let s = c .before .before .before .before .args .strip .now in
+    let f = c .before .before .before .before .args .file .now in
+    let q = c .before .before .before .before .args .q in
+    let k = keptAt f q in
+    let m = length-append (part f (q + 13) k) (lent (length s - k)) in
+    let n = part-length f (q + 13) k (omega arith) in
+    let t : c .before .kept-at .result ≡ k = c .before .kept-at .ensures in
+    sym (same-lengths s (storedBuffer f q (length s)) (λ e. omega arith))
+
+add-start : tie.Need-add-start
+add-start c = search needs
+
+add-end : tie.Need-add-end
+add-end c = search needs
+
+slice-aggregate-same : tie.Need-slice-aggregate-same
+slice-aggregate-same c = sym (length-take-le (c .before .before .kept-at .result) (c .before .before .before .before .before .args .strip .now) (omega arith))
+
+sub-same : tie.Need-sub-same
+sub-same c = search needs
+
+part-same-start : tie.Need-part-same-start
+part-same-start c = search needs
+
+part-same-end : tie.Need-part-same-end
+part-same-end c = search needs
+
+same-requires : tie.Need-same-requires
+same-requires c κs = search needs
+
+returns-2 : tie.Need-returns-2
+returns-2 c =
+    let s = c .before .before .before .before .before .before .before .before .args .strip .now in
+    let f = c .before .before .before .before .before .before .before .before .args .file .now in
+    let q = c .before .before .before .before .before .before .before .before .args .q in
+    let k = keptAt f q in
+    let j = c .before .before .before .before .before .kept-at .result in
+    let n = part-length f (q + 13) k (omega arith) in
+    let t : j ≡ k = c .before .before .before .before .before .kept-at .ensures in
+    let w : q + 13 + j - (q + 13) ≡ j = omega arith in
+    let e : c .before .same .result ≡ sameBytes (take k s) (part f (q + 13) k) = rw t at (rw w at (c .before .same .ensures)) in
+    sym (same-parts s (part f (q + 13) k) (lent (length s - k)) k (omega arith) n ∙ rw (sym e ∙ not-true _ (c .if2 .taken)))
+
+sub-is-filled : tie.Need-sub-is-filled
+sub-is-filled c = search needs
+
+part-is-filled-start : tie.Need-part-is-filled-start
+part-is-filled-start c = search needs
+
+part-is-filled-end : tie.Need-part-is-filled-end
+part-is-filled-end c = search needs
+
+is-filled-requires : tie.Need-is-filled-requires
+is-filled-requires c κs = search needs
+
+returns-3 : tie.Need-returns-3
+returns-3 c =
+    let s = c .before .before .before .before .before .before .before .before .before .before .args .strip .now in
+    let f = c .before .before .before .before .before .before .before .before .before .before .args .file .now in
+    let q = c .before .before .before .before .before .before .before .before .before .before .args .q in
+    let k = keptAt f q in
+    let j = c .before .before .before .before .before .before .before .kept-at .result in
+    let n = part-length f (q + 13) k (omega arith) in
+    let t : j ≡ k = c .before .before .before .before .before .before .before .kept-at .ensures in
+    let w : q + 13 + j - (q + 13) ≡ j = omega arith in
+    let e : c .before .before .before .same .result ≡ sameBytes (take k s) (part f (q + 13) k) = rw t at (rw w at (c .before .before .before .same .ensures)) in
+    let x : take (length s - j) (drop j s) ≡ drop j s = take-all (length s - j) (drop j s) (rw (length-drop j s) (omega arith)) in
+    let r : c .is-filled .result ≡ sameBytes (drop k s) (lent (length s - k)) = rw t at (rw (length-drop j s) at (rw x at (c .is-filled .ensures))) in
+    sym (same-parts s (part f (q + 13) k) (lent (length s - k)) k (omega arith) n ∙ rw (sym e ∙ not-false _ (c .before .before .if2 .left)) (sym r))
+
+pub is-buffer-spec : {M : Type 1} → statement M
+is-buffer-spec =
+    tie.close
+    (tie.spec
+    kept-at-requires
+    returns
+    add-start
+    add-end
+    slice-aggregate-same
+    sub-same
+    part-same-start
+    part-same-end
+    same-requires
+    returns-2
+    sub-is-filled
+    part-is-filled-start
+    part-is-filled-end
+    is-filled-requires
+    returns-3)

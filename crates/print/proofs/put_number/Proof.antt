@@ -1,0 +1,31 @@
+use native.Mathlib.Omega.{arith}
+use Rattle.format.proofs.Wrote.{then, kept}
+use Rattle.digits.proofs.Numerals.{length-spaced}
+use borrow.Author.Needs.{needs}
+use Rattle.print.proofs.put_number.Statement.{statement}
+use Rattle.print.proofs.put_number.Tie as tie
+
+put-field-requires : tie.Need-put-field-requires
+put-field-requires c κs = search needs
+
+put-spaced-requires : tie.Need-put-spaced-requires
+put-spaced-requires c κs = search needs
+
+put-u8-requires : tie.Need-put-u8-requires
+put-u8-requires c κs =
+    let w = c .before .before .before .before .before .before .before .put-field .ensures in
+    let x = c .before .before .before .put-spaced .ensures in
+    let l = length-spaced (c .before .before .before .before .before .before .before .before .before .before .before .args .value) in
+    let g = kept (w .0) in
+    let h = kept x in
+    omega (arith, x .place)
+
+same-length : tie.Need-same-length
+same-length c = search needs
+
+returns : tie.Need-returns
+returns c = then (then (c .before .before .before .before .before .before .before .before .before .before .put-field .ensures .0) (c .before .before .before .before .before .before .put-spaced .ensures)) (c .before .before .put-u8 .ensures)
+
+pub put-number-spec : {M : Type 1} → statement M
+put-number-spec =
+    tie.close (tie.spec put-field-requires put-spaced-requires put-u8-requires same-length returns)
