@@ -6,12 +6,12 @@ use mathlib.Core.Bool.{Bool, true, false}
 use mathlib.Core.List.{List}
 use lib.ListN.{length, getD, take, drop}
 use Rattle.format.specs.Bytes.{be32At, be64At}
-use Rattle.format.specs.Walks.{answer, answerOf, stripOf}
+use Rattle.format.specs.Walks.{answer, walkOf, answerOf, stripOf}
 use Rattle.answer.specs.Answers.{answered}
 use Rattle.answer.specs.declared.Answer.{Answer}
 use Rattle.stored.specs.Stored.{walkAt, roomAt, sizeAt}
 use Rattle.expected.specs.Expected.{lent, sameAnswer, sameBytes, storedAnswer, storedBuffer}
-use Rattle.agreement.specs.Agree.{agreesAt, outcomeAt, walkOf}
+use Rattle.agreement.specs.Agree.{agreesAt, outcomeAt}
 use Rattle.expected.proofs.Bytes.{lent-length}
 
 -- The call at p was made, with n bytes of data: what the walk answered, and the buffer before and after.
@@ -20,8 +20,8 @@ pub record Ran (b : List ℕ) (p n count offset : ℕ) (before after : List ℕ)
   pub counted : count ≡ be32At b (p + 2)
   pub placed : offset ≡ be64At b (p + 6)
   pub filled : before ≡ lent (roomAt b p)
-  pub said : a ≡ answered (answerOf (walkOf (walkAt b p) (getD b p 0) (take (p + 22 + n - (p + 22)) (drop (p + 22) b)) count offset) (length before))
-  pub left : after ≡ stripOf (walkOf (walkAt b p) (getD b p 0) (take (p + 22 + n - (p + 22)) (drop (p + 22) b)) count offset) before
+  pub said : a ≡ answered (answerOf (walkOf (getD b p 0) (walkAt b p) (take (p + 22 + n - (p + 22)) (drop (p + 22) b)) count offset) (length before))
+  pub left : after ≡ stripOf (walkOf (getD b p 0) (walkAt b p) (take (p + 22 + n - (p + 22)) (drop (p + 22) b)) count offset) before
 
 module _ (b : List ℕ) (p : ℕ) where
   said-by : {n count offset : ℕ} {before after : List ℕ} {a : Answer} → Ran b p n count offset before after a

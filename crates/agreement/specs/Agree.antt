@@ -3,19 +3,14 @@ use Prim.Native.Nat.{ℕ, _+_}
 use mathlib.Core.Bool.{Bool, false, cond}
 use mathlib.Core.List.{List}
 use lib.ListN.{getD}
-use lib.Dec.{eqb}
 use Rattle.format.specs.Bytes.{be32At, be64At, part}
-use Rattle.format.specs.Walks.{Outcome, headersOf, updateOf, lsaOf, answerOf, stripOf}
+use Rattle.format.specs.Walks.{Outcome, walkOf, answerOf, stripOf}
 use Rattle.stored.specs.Stored.{walkAt, roomAt, sizeAt, answerAt}
 use Rattle.expected.specs.Expected.{lent, sameAnswer, sameBytes, storedAnswer, storedBuffer}
 
--- Walk 0 is that of a header list, 1 of an update, 2 of a single LSA.
-unfoldable pub walkOf : (walk version : ℕ) → List ℕ → (count offset : ℕ) → Outcome
-walkOf w v d count o = cond (eqb w 0) (headersOf v d o) (cond (eqb w 1) (updateOf v d count o) (lsaOf v d o))
-
 -- What the call at p comes to by the definitions.
 unfoldable pub outcomeAt : List ℕ → ℕ → Outcome
-outcomeAt b p = walkOf (walkAt b p) (getD b p 0) (part b (p + 22) (sizeAt b p)) (be32At b (p + 2)) (be64At b (p + 6))
+outcomeAt b p = walkOf (getD b p 0) (walkAt b p) (part b (p + 22) (sizeAt b p)) (be32At b (p + 2)) (be64At b (p + 6))
 
 unfoldable pub agreesAt : List ℕ → ℕ → Bool
 agreesAt b p =

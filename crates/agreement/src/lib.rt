@@ -3,15 +3,10 @@
 ghost use mathlib.Core.Path.{_≡_};
 ghost use Prim.Native.Nat.{_+_, _≤_};
 ghost use lib.ListN.{length};
-ghost use Rattle.format.specs.Walks.{answerOf, stripOf};
-ghost use Rattle.answer.specs.Answers.{answered};
 ghost use Rattle.stored.specs.Stored.{callSize, roomAt};
 ghost use Rattle.expected.specs.Expected.{lent};
-ghost use Rattle.agreement.specs.Agree.{agreesAt, walkOf};
-use answer::Answer;
-use common::push_lsa;
-use common::push_lsa_headers;
-use common::push_lsu_lsas;
+ghost use Rattle.agreement.specs.Agree.{agreesAt};
+use common::walk;
 use expected::FILL;
 use expected::is_answer;
 use expected::is_buffer;
@@ -42,9 +37,9 @@ fn agrees_in(file: &[u8], pos: usize, strip: &mut [u8]) -> bool
     let count = read_be_u32(file, pos + 2);
     let offset = read_be_u64(file, pos + 6);
     fill(strip);
-    let answer = run(
-        file[pos + 1],
+    let answer = walk(
         file[pos],
+        file[pos + 1],
         &file[start..q],
         count,
         offset,
@@ -54,19 +49,6 @@ fn agrees_in(file: &[u8], pos: usize, strip: &mut [u8]) -> bool
         return false;
     }
     is_buffer(strip, file, q)
-}
-
-fn run(walk: u8, version: u8, data: &[u8], count: u32, offset: u64, strip: &mut [u8]) -> Answer
-    ensures { λ r. ⌜ r ≡ answered (answerOf (walkOf walk version (now («data» .entry)) count offset) (length (now (strip .entry)))) ⌝ }
-    ensures { λ r. ⌜ now (strip .exit) ≡ stripOf (walkOf walk version (now («data» .entry)) count offset) (now (strip .entry)) ⌝ }
-{
-    if walk == 0 {
-        return push_lsa_headers(version, data, offset, strip);
-    }
-    if walk == 1 {
-        return push_lsu_lsas(version, data, count, offset, strip);
-    }
-    push_lsa(version, data, offset, strip)
 }
 
 fn fill(strip: &mut [u8])

@@ -12,9 +12,9 @@ use Rattle.format.specs.Strip.{Entry, code, encode, container}
 use Rattle.format.specs.Cut.{cut, standing, after}
 use Rattle.format.specs.Header.{headerEntries2}
 use Rattle.format.specs.Body.{listing, leftover, whole}
-use Rattle.format.specs.Walks.{answerOf, unless, refusal, isKnown, maxData, maxOffset, headersOf, updateOf, lsaOf, outer, headerObject}
+use Rattle.format.specs.Walks.{answerOf, unless, refusal, isKnown, maxData, maxOffset, headersOf, updateOf, lsaOf, walkOf, outer, headerObject}
 use Rattle.format.specs.Walks.Outcome.{refused, accepted}
-use Rattle.format.specs.Print.{maxInput, stripRoom, countOf, walkOf, programOf, digits, hex, line, firstLine, printed, ProgramRefusals}
+use Rattle.format.specs.Print.{maxInput, stripRoom, countOf, namedWalk, programOf, digits, hex, line, firstLine, printed, ProgramRefusals}
 use Rattle.format.proofs.Refusals.{number-is}
 
 -- A walk over no more data than it may have does not answer 2, and no walk answers more than 5.
@@ -31,15 +31,16 @@ numbers v d o least es r t room h =
     go true false false true = (λ z. omega arith, omega arith)
     go true false false false = (λ z. omega arith, omega arith)
 
-walk-numbers : (v w : ℕ) (d : List ℕ) → length d ≤ maxData → (answerOf (walkOf v w d) stripRoom .number ≡ 2 → ⊥) × (answerOf (walkOf v w d) stripRoom .number ≤ 5)
+walk-numbers : (v w : ℕ) (d : List ℕ) (n o : ℕ) → length d ≤ maxData
+    → (answerOf (walkOf v w d n o) stripRoom .number ≡ 2 → ⊥) × (answerOf (walkOf v w d n o) stripRoom .number ≤ 5)
 unfolding walkOf headersOf updateOf lsaOf
-walk-numbers v w d h = go (eqb w 0) (eqb w 1)
+walk-numbers v w d n o h = go (eqb w 0) (eqb w 1)
   where
-    go : (s t : Bool) → (answerOf (cond s (headersOf v d 0) (cond t (updateOf v d (countOf d) 0) (lsaOf v d 0))) stripRoom .number ≡ 2 → ⊥)
-        × (answerOf (cond s (headersOf v d 0) (cond t (updateOf v d (countOf d) 0) (lsaOf v d 0))) stripRoom .number ≤ 5)
-    go true t = numbers v d 0 0 _ _ _ stripRoom h
-    go false true = numbers v d 0 4 _ _ _ stripRoom h
-    go false false = numbers v d 0 20 _ _ _ stripRoom h
+    go : (s t : Bool) → (answerOf (cond s (headersOf v d o) (cond t (updateOf v d n o) (lsaOf v d o))) stripRoom .number ≡ 2 → ⊥)
+        × (answerOf (cond s (headersOf v d o) (cond t (updateOf v d n o) (lsaOf v d o))) stripRoom .number ≤ 5)
+    go true t = numbers v d o 0 _ _ _ stripRoom h
+    go false true = numbers v d o 4 _ _ _ stripRoom h
+    go false false = numbers v d o 20 _ _ _ stripRoom h
 
 -- The tests of the program, in their order.
 pub program-refusals : (input : List ℕ) → ProgramRefusals input (answerOf (programOf input) stripRoom .number)
@@ -47,7 +48,7 @@ unfolding programOf answerOf
 program-refusals input = first (ltb maxInput (length input)) refl
   where
     third : (t : Bool) → ltb 2 (getD input 1 0) ≡ t → length input ≤ maxInput → 2 ≤ length input
-        → ProgramRefusals input (answerOf (cond t (refused 12) (walkOf (getD input 0 0) (getD input 1 0) (drop 2 input))) stripRoom .number)
+        → ProgramRefusals input (answerOf (cond t (refused 12) (namedWalk input)) stripRoom .number)
     third true e l m =
         let h = ltb-true 2 (getD input 1 0) e in record {
           two = (λ z. absurd (omega arith), λ z. absurd (omega arith));
@@ -58,7 +59,7 @@ program-refusals input = first (ltb maxInput (length input)) refl
     third false e l m =
         let h = ltb-false 2 (getD input 1 0) e in
         let d = length-drop 2 input in
-        let n = walk-numbers (getD input 0 0) (getD input 1 0) (drop 2 input) (omega arith) in record {
+        let n = walk-numbers (getD input 0 0) (getD input 1 0) (drop 2 input) (countOf (drop 2 input)) 0 (omega arith) in record {
           two = (λ z. absurd (n .0 z), λ z. absurd (omega arith));
           four = (λ z. (λ a. omega arith, inr (λ a. omega arith, λ a. omega arith, z)), λ p. ⊎-elim (λ s. absurd (omega arith)) (λ q. q .2) (p .1));
           twelve = (λ z. absurd (let k = n .1 in omega arith), λ p. absurd (let k = p .2 in omega arith));
@@ -66,7 +67,7 @@ program-refusals input = first (ltb maxInput (length input)) refl
         }
 
     second : (t : Bool) → ltb (length input) 2 ≡ t → length input ≤ maxInput
-        → ProgramRefusals input (answerOf (cond t (refused 4) (cond (ltb 2 (getD input 1 0)) (refused 12) (walkOf (getD input 0 0) (getD input 1 0) (drop 2 input)))) stripRoom .number)
+        → ProgramRefusals input (answerOf (cond t (refused 4) (cond (ltb 2 (getD input 1 0)) (refused 12) (namedWalk input))) stripRoom .number)
     second true e l =
         let h = ltb-true (length input) 2 e in record {
           two = (λ z. absurd (omega arith), λ z. absurd (omega arith));
@@ -77,7 +78,7 @@ program-refusals input = first (ltb maxInput (length input)) refl
     second false e l = third (ltb 2 (getD input 1 0)) refl l (ltb-false (length input) 2 e)
 
     first : (t : Bool) → ltb maxInput (length input) ≡ t
-        → ProgramRefusals input (answerOf (cond t (refused 2) (cond (ltb (length input) 2) (refused 4) (cond (ltb 2 (getD input 1 0)) (refused 12) (walkOf (getD input 0 0) (getD input 1 0) (drop 2 input))))) stripRoom .number)
+        → ProgramRefusals input (answerOf (cond t (refused 2) (cond (ltb (length input) 2) (refused 4) (cond (ltb 2 (getD input 1 0)) (refused 12) (namedWalk input)))) stripRoom .number)
     first true e =
         let h = ltb-true maxInput (length input) e in record {
           two = (λ z. h, λ p. refl);

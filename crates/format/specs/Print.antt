@@ -9,7 +9,7 @@ use lib.Dec.{ltb, eqb}
 use Rattle.format.specs.Bytes.{be32At}
 use Rattle.format.specs.Strip.{Entry}
 use Rattle.format.specs.Strip.Entry.{opens, closes, u8, u16, u32, ip4, ip6, bytes}
-use Rattle.format.specs.Walks.{Outcome, Answer, headersOf, updateOf, lsaOf, answerOf}
+use Rattle.format.specs.Walks.{Outcome, Answer, walkOf, answerOf}
 use Rattle.format.specs.Walks.Outcome.{refused, accepted}
 
 -- The most bytes of input, and the room of the program's strip buffer.
@@ -23,9 +23,9 @@ stripRoom = 65536
 abbrev pub countOf : List ℕ → ℕ
 countOf d = cond (ltb (length d) 4) 0 (be32At d 0)
 
--- The walk that the second byte names: 0 headers, 1 update, 2 single LSA.
-unfoldable pub walkOf : (version walk : ℕ) → List ℕ → Outcome
-walkOf v w d = cond (eqb w 0) (headersOf v d 0) (cond (eqb w 1) (updateOf v d (countOf d) 0) (lsaOf v d 0))
+-- The walk that the second byte names, at the offset 0.
+abbrev pub namedWalk : List ℕ → Outcome
+namedWalk input = walkOf (getD input 0 0) (getD input 1 0) (drop 2 input) (countOf (drop 2 input)) 0
 
 -- Version, walk, data. 2: too much input; 4: no version or no walk; 12: no such walk; then the walk's own refusals.
 unfoldable pub programOf : List ℕ → Outcome
@@ -33,7 +33,7 @@ programOf input =
     cond (ltb maxInput (length input)) (refused 2)
     (cond (ltb (length input) 2) (refused 4)
     (cond (ltb 2 (getD input 1 0)) (refused 12)
-    (walkOf (getD input 0 0) (getD input 1 0) (drop 2 input))))
+    (namedWalk input)))
 
 -- A number in decimal. The first argument is one less than the most digits.
 unfoldable pub digits : ℕ → ℕ → List ℕ
@@ -137,7 +137,7 @@ printed input = firstLine (answerOf (programOf input) stripRoom) ++ flatMap line
 
 -- The number of the walk that the input names.
 abbrev pub walkNumber : List ℕ → ℕ
-walkNumber input = answerOf (walkOf (getD input 0 0) (getD input 1 0) (drop 2 input)) stripRoom .number
+walkNumber input = answerOf (namedWalk input) stripRoom .number
 
 -- The conditions of the program's own refusals, in their order.
 abbrev pub TooLong : List ℕ → Type 0

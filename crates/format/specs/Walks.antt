@@ -84,6 +84,10 @@ updateOf v d count o = unless (refusal v d o 4) (accepted (outer v (lsaObject v 
 unfoldable pub lsaOf : ℕ → List ℕ → ℕ → Outcome
 lsaOf v d o = unless (refusal v d o headerSize) (accepted (lsaEntries v d o) 1 (lsaTail v d))
 
+-- The walk by its number: 0 headers, 1 update, 2 single LSA. The count is an update's alone.
+unfoldable pub walkOf : (version walk : ℕ) → List ℕ → (count offset : ℕ) → Outcome
+walkOf v w d count o = cond (eqb w 0) (headersOf v d o) (cond (eqb w 1) (updateOf v d count o) (lsaOf v d o))
+
 -- A walk's answer.
 pub record Answer : Type 0 where
   pub number : ℕ

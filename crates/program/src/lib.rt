@@ -3,13 +3,11 @@ ghost use mathlib.Core.Path.{_≡_};
 ghost use Prim.Native.Nat.{_≤_};
 ghost use lib.ListN.{length};
 ghost use Rattle.format.specs.Walks.{answerOf, stripOf};
-ghost use Rattle.format.specs.Print.{countOf, walkOf, programOf};
+ghost use Rattle.format.specs.Print.{countOf, programOf};
 ghost use Rattle.answer.specs.Answers.{answered};
 use common::Answer;
-use common::push_lsa;
-use common::push_lsa_headers;
-use common::push_lsu_lsas;
 use common::refused;
+use common::walk;
 use util::read_be_u32;
 
 // The most bytes of input.
@@ -36,21 +34,8 @@ pub fn run(input: &[u8], strip: &mut [u8]) -> Answer
     if 2 < input[1] {
         return refused(NO_WALK);
     }
-    walk(input[0], input[1], &input[2..], strip)
-}
-
-// The walk by its number, at the offset 0.
-fn walk(version: u8, walk: u8, data: &[u8], strip: &mut [u8]) -> Answer
-    ensures { λ r. ⌜ r ≡ answered (answerOf (walkOf version walk (now («data» .entry))) (length (now (strip .entry)))) ⌝ }
-    ensures { λ r. ⌜ now (strip .exit) ≡ stripOf (walkOf version walk (now («data» .entry))) (now (strip .entry)) ⌝ }
-{
-    if walk == 0 {
-        push_lsa_headers(version, data, 0, strip)
-    } else if walk == 1 {
-        push_lsu_lsas(version, data, count_of(data), 0, strip)
-    } else {
-        push_lsa(version, data, 0, strip)
-    }
+    let data = &input[2..];
+    walk(input[0], input[1], data, count_of(data), 0, strip)
 }
 
 // An update's count: its first four bytes.

@@ -39,26 +39,26 @@ read-be-u64-requires c κs = search needs
 fill-requires : tie.Need-fill-requires
 fill-requires c κs = search needs
 
-add-run : tie.Need-add-run
-add-run c = search needs
+shared-slice-read-walk : tie.Need-shared-slice-read-walk
+shared-slice-read-walk c = search needs
 
-shared-slice-read-run : tie.Need-shared-slice-read-run
-shared-slice-read-run c = search needs
+add-walk : tie.Need-add-walk
+add-walk c = search needs
 
-shared-slice-read-run-2 : tie.Need-shared-slice-read-run-2
-shared-slice-read-run-2 c = search needs
+shared-slice-read-walk-2 : tie.Need-shared-slice-read-walk-2
+shared-slice-read-walk-2 c = search needs
 
-sub-run : tie.Need-sub-run
-sub-run c = search needs
+sub-walk : tie.Need-sub-walk
+sub-walk c = search needs
 
-part-run-start : tie.Need-part-run-start
-part-run-start c = search needs
+part-walk-start : tie.Need-part-walk-start
+part-walk-start c = search needs
 
-part-run-end : tie.Need-part-run-end
-part-run-end c = search needs
+part-walk-end : tie.Need-part-walk-end
+part-walk-end c = search needs
 
-run-requires : tie.Need-run-requires
-run-requires c κs = search needs
+walk-requires : tie.Need-walk-requires
+walk-requires c κs = search needs
 
 is-answer-requires : tie.Need-is-answer-requires
 is-answer-requires c κs = search needs
@@ -67,14 +67,14 @@ same-length : tie.Need-same-length
 same-length c = search needs
 
 -- the walk was called as the stored call says
-ran : (c : tie.After-slice-known3) → Ran (c .before .before .before .before .before .before .before .before .before .before .before .before .before .before .before .before .args .file .now) (c .before .before .before .before .before .before .before .before .before .before .before .before .before .before .before .before .args .pos) (c .before .before .before .before .before .before .before .before .before .before .before .before .before .read-be-u32 .result) (c .before .before .before .before .before .before .before .before .before .before .before .before .read-be-u322 .result) (c .before .before .before .before .before .before .before .before .before .before .before .read-be-u64 .result) (c .before .before .before .before .before .before .before .before .before .fill .last .0) (c .before .before .run .last .1 .1 .1 .1 .1 .0) (c .before .before .run .result)
+ran : (c : tie.After-slice-known3) → Ran (c .before .before .before .before .before .before .before .before .before .before .before .before .before .before .before .before .args .file .now) (c .before .before .before .before .before .before .before .before .before .before .before .before .before .before .before .before .args .pos) (c .before .before .before .before .before .before .before .before .before .before .before .before .before .read-be-u32 .result) (c .before .before .before .before .before .before .before .before .before .before .before .before .read-be-u322 .result) (c .before .before .before .before .before .before .before .before .before .before .before .read-be-u64 .result) (c .before .before .before .before .before .before .before .before .before .fill .last .0) (c .before .before .walk .last .1 .1 .1 .1 .1 .0) (c .before .before .walk .result)
 ran c = record {
   sized = c .before .before .before .before .before .before .before .before .before .before .before .before .before .read-be-u32 .ensures;
   counted = c .before .before .before .before .before .before .before .before .before .before .before .before .read-be-u322 .ensures;
   placed = c .before .before .before .before .before .before .before .before .before .before .before .read-be-u64 .ensures;
   filled = c .before .before .before .before .before .before .before .before .before .fill .ensures ∙ ap lent (sym (c .before .before .before .before .before .before .before .before .before .before .before .before .before .before .before .before .pre .1));
-  said = c .before .before .run .ensures .0;
-  left = c .before .before .run .ensures .1;
+  said = c .before .before .walk .ensures .0;
+  left = c .before .before .walk .ensures .1;
 }
 
 returns : tie.Need-returns
@@ -97,7 +97,7 @@ returns-2 : tie.Need-returns-2
 returns-2 c =
     let s = c .before .before .before .before .before .before .before .before .before .before .before .before .before .before .before .before .before .before .before .before .args in
     let f = s .file .now in
-    let n : length (c .before .before .before .before .before .before .run .last .1 .1 .1 .1 .1 .0) ≡ roomAt f (s .pos) = omega (arith, c .before .before .before .before .before .before .run .kept, c .before .before .before .before .before .before .before .before .before .before .before .before .before .fill .kept, c .before .before .before .before .before .before .before .before .before .before .before .before .before .before .before .before .before .before .before .before .pre .1) in
+    let n : length (c .before .before .before .before .before .before .walk .last .1 .1 .1 .1 .1 .0) ≡ roomAt f (s .pos) = omega (arith, c .before .before .before .before .before .before .walk .kept, c .before .before .before .before .before .before .before .before .before .before .before .before .before .fill .kept, c .before .before .before .before .before .before .before .before .before .before .before .before .before .before .before .before .before .before .before .before .pre .1) in
     answer-agrees f (s .pos) (ran (c .before .before .before .before)) (c .before .before .before .is-answer .ensures) (not-false _ (c .before .before .if1 .left)) n (c .is-buffer .ensures)
 
 pub agrees-in-spec : {M : Type 1} → statement M
@@ -114,13 +114,13 @@ agrees-in-spec =
     add-read-be-u64
     read-be-u64-requires
     fill-requires
-    add-run
-    shared-slice-read-run
-    shared-slice-read-run-2
-    sub-run
-    part-run-start
-    part-run-end
-    run-requires
+    shared-slice-read-walk
+    add-walk
+    shared-slice-read-walk-2
+    sub-walk
+    part-walk-start
+    part-walk-end
+    walk-requires
     is-answer-requires
     same-length
     returns

@@ -41,20 +41,23 @@ returns-3 c =
     let i = c .before .before .before .before .before .before .before .args .input .now in
     rw (le-ltb maxInput (length i) (omega arith), le-ltb (length i) 2 (omega arith), lt-ltb 2 (getD i 1 0) (omega arith)) (c .refused3 .ensures, (refl, λ z. rw (c .refused3 .ensures) (omega arith)))
 
+sub-data : tie.Need-sub-data
+sub-data c = search needs
+
+part-data-start : tie.Need-part-data-start
+part-data-start c = search needs
+
+part-data-end : tie.Need-part-data-end
+part-data-end c = search needs
+
 shared-slice-read-walk : tie.Need-shared-slice-read-walk
 shared-slice-read-walk c = search needs
 
 shared-slice-read-walk-2 : tie.Need-shared-slice-read-walk-2
 shared-slice-read-walk-2 c = search needs
 
-sub-walk : tie.Need-sub-walk
-sub-walk c = search needs
-
-part-walk-start : tie.Need-part-walk-start
-part-walk-start c = search needs
-
-part-walk-end : tie.Need-part-walk-end
-part-walk-end c = search needs
+count-of-requires : tie.Need-count-of-requires
+count-of-requires c κs = search needs
 
 walk-requires : tie.Need-walk-requires
 walk-requires c κs = search needs
@@ -65,8 +68,9 @@ same-length c = search needs
 returns-4 : tie.Need-returns-4
 unfolding programOf
 returns-4 c =
-    let i = c .before .before .before .before .before .before .before .before .before .before .before .before .before .args .input .now in
-    let w = rw (take-all (length i - 2) (drop 2 i) (rw (length-drop 2 i) (omega arith))) at (c .before .before .walk .ensures) in
+    let i = c .before .before .before .before .before .before .before .before .before .before .before .before .before .before .args .input .now in
+    let t = take-all (length i - 2) (drop 2 i) (rw (length-drop 2 i) (omega arith)) in
+    let w = rw (c .before .before .before .before .count-of .ensures, t) at (c .before .before .walk .ensures) in
     rw (le-ltb maxInput (length i) (omega arith), le-ltb (length i) 2 (omega arith), le-ltb 2 (getD i 1 0) (omega arith)) (w .0, (w .1, strip-fits _ _ _ _ (w .0) (w .1)))
 
 pub run-spec : {M : Type 1} → statement M
@@ -80,11 +84,12 @@ run-spec =
     shared-slice-read-if3
     refused-requires-3
     returns-3
+    sub-data
+    part-data-start
+    part-data-end
     shared-slice-read-walk
     shared-slice-read-walk-2
-    sub-walk
-    part-walk-start
-    part-walk-end
+    count-of-requires
     walk-requires
     same-length
     returns-4)

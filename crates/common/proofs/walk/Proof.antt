@@ -1,9 +1,9 @@
 use native.Mathlib.Omega.{arith}
 use borrow.Author.Tests.{eq-eqb, ne-eqb}
-use Rattle.agreement.specs.Agree.{walkOf}
+use Rattle.format.specs.Walks.{walkOf}
 use borrow.Author.Needs.{needs}
-use Rattle.agreement.proofs.run.Statement.{statement}
-use Rattle.agreement.proofs.run.Tie as tie
+use Rattle.common.proofs.walk.Statement.{statement}
+use Rattle.common.proofs.walk.Tie as tie
 
 push-lsa-headers-requires : tie.Need-push-lsa-headers-requires
 push-lsa-headers-requires c κs = search needs
@@ -43,8 +43,8 @@ returns-3 c =
     let e = c .before .before .push-lsa .ensures in
     rw (ne-eqb w 0 (λ x. omega arith), ne-eqb w 1 (λ x. omega arith)) (e .0, e .1 .0)
 
-pub run-spec : {M : Type 1} → statement M
-run-spec =
+pub walk-spec : {M : Type 1} → statement M
+walk-spec =
     tie.close
     (tie.spec
     push-lsa-headers-requires
