@@ -13,8 +13,8 @@ use crate::digits::put_place;
 use crate::digits::put_spaced;
 use crate::digits::put_word;
 use answer::Answer;
+use step::Entry;
 use strip::put::put_u8;
-use strip::step::Entry;
 
 // No line is longer.
 pub const LINE: usize = 160;
