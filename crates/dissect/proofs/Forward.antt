@@ -10,10 +10,10 @@ use lib.Dec.{ltb, leb, eqb}
 use borrow.Author.Tests.{leb-true}
 use Rattle.format.specs.Strip.{stepAt, bodyLength, entryAt}
 use Rattle.format.specs.Strip.Step.{entry, end, refused}
-use Rattle.strip.specs.Answers.{stepOf}
-use Rattle.strip.specs.declared.step.Entry.{Entry}
-use Rattle.strip.specs.declared.step.Step.{Step}
-use Rattle.strip.specs.declared.step.Step.the-variants as S
+use Rattle.step.specs.Answers.{stepOf}
+use Rattle.step.specs.declared.Entry.{Entry}
+use Rattle.step.specs.declared.Step.{Step}
+use Rattle.step.specs.declared.Step.the-variants as S
 
 module _ (s : List ℕ) (p : ℕ) (r : Step) (x : Entry) (q : ℕ) (h : r ≡ S.Entry x q) where
   fits : (n : ℕ) (t : Bool) → leb (p + 1 + n) (length s) ≡ t

@@ -5,7 +5,7 @@ use print::entry_line;
 use program::MAX_INPUT;
 use program::run;
 use reader::step_from;
-use strip::step::Step;
+use step::Step;
 
 fn main() {
     // One byte more than the most input, so that more is seen.

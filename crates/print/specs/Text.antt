@@ -7,8 +7,8 @@ use Rattle.format.specs.Strip as strip
 use Rattle.format.specs.Strip.Entry.{opens, closes, u8, u16, u32, ip4, ip6, bytes}
 use Rattle.format.specs.Walks as walks
 use Rattle.format.specs.Print.{lineRoom}
-use Rattle.strip.specs.declared.step.Entry.{Entry}
-use Rattle.strip.specs.declared.step.Entry.the-variants.{Open, Close, U8, U16, U32, Ipv4, Ipv6, Bytes}
+use Rattle.step.specs.declared.Entry.{Entry}
+use Rattle.step.specs.declared.Entry.the-variants.{Open, Close, U8, U16, U32, Ipv4, Ipv6, Bytes}
 use Rattle.answer.specs.declared.Answer.{Answer}
 
 abbrev pub entryOf : Entry → strip.Entry

@@ -1,7 +1,7 @@
 -- Where a reader stands after a step: behind the entry that it read, and where it was if there was none.
 use Prim.Native.Nat.{ℕ}
-use Rattle.strip.specs.declared.step.Step.{Step}
-use Rattle.strip.specs.declared.step.Step.the-variants.{Entry, End, Refused}
+use Rattle.step.specs.declared.Step.{Step}
+use Rattle.step.specs.declared.Step.the-variants.{Entry, End, Refused}
 
 abbrev pub placeAfter : Step → ℕ → ℕ
 placeAfter (Entry x next) p = next

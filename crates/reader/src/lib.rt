@@ -1,10 +1,10 @@
 // The strip reader, and the part of a packet that an entry of a strip names.
 ghost use mathlib.Core.Path.{_≡_};
 ghost use Rattle.format.specs.Strip.{stepAt};
-ghost use Rattle.strip.specs.Answers.{stepOf};
+ghost use Rattle.step.specs.Answers.{stepOf};
 ghost use Rattle.reader.specs.After.{placeAfter};
-use strip::step::Step;
-use strip::step::step_at;
+use step::Step;
+use step::step_at;
 
 pub mod part;
 

@@ -1,2 +1,1 @@
-mod KindLaws
 mod SwapLaws

@@ -1,5 +1,4 @@
-// The strip: what writes its entries, and the step that reads one back.
+// The strip: what writes its entries. What reads one back is in crate `step`.
 pub mod push;
 pub mod put;
-pub mod step;
 mod swap;

@@ -15,7 +15,8 @@ use Rattle.format.proofs.Lists.{length-whole}
 use Rattle.format.proofs.Wrote.{encode-append}
 use Rattle.body.proofs.Laws.{length-lsa, rest-bound}
 use Rattle.body.specs.Answers.{bytesOf}
-use Rattle.v3_prefix.proofs.Bounds.{Within, enough, most, inter-area-prefix-bound, link-bound, intra-area-prefix-bound}
+use Rattle.v3_prefix.proofs.Bounds.{Within, enough, most}
+use Rattle.v3_prefix_lsa.proofs.Bounds.{inter-area-prefix-bound, link-bound, intra-area-prefix-bound}
 use Rattle.v3_external.proofs.Bounds.{external-bound}
 
 -- What holds of both cases holds of the choice.

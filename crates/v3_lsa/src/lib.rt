@@ -1,5 +1,5 @@
 // v3_lsa.rs: the entries of a version 3 LSA, by its function code (RFC 5340 A.4, RFC 7770 2.2, RFC 8362 4, RFC 9513 7).
-// The bodies with prefixes are in the crates `v3_prefix` and `v3_external`.
+// The bodies with prefixes are in the crates `v3_prefix_lsa` and `v3_external`.
 ghost use mathlib.Core.Path.{_≡_};
 ghost use Prim.Native.Nat.{_+_, _*_, _≤_, _<_};
 ghost use mathlib.Core.List.{flatMap};
@@ -33,12 +33,12 @@ use v3_external::FLAG_E;
 use v3_external::FLAGS;
 use v3_external::push_external_lsa;
 use v3_prefix::METRIC;
-use v3_prefix::ROUTER_PRIORITY;
-use v3_prefix::push_inter_area_prefix_lsa;
-use v3_prefix::push_intra_area_prefix_lsa;
-use v3_prefix::push_link_lsa;
-use v3_prefix::push_options;
-use v3_prefix::push_references;
+use v3_prefix_lsa::ROUTER_PRIORITY;
+use v3_prefix_lsa::push_inter_area_prefix_lsa;
+use v3_prefix_lsa::push_intra_area_prefix_lsa;
+use v3_prefix_lsa::push_link_lsa;
+use v3_prefix_lsa::push_options;
+use v3_prefix_lsa::push_references;
 
 pub mod measure;
 

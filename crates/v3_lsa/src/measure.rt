@@ -18,13 +18,13 @@ use header::LsaHeader;
 use header::v3::measure_lsa_header_fields;
 use v3_external::measure::measure_external_lsa;
 use v3_prefix::measure::ARRAY;
-use v3_prefix::measure::METRIC;
-use v3_prefix::measure::OPTIONS;
-use v3_prefix::measure::REFERENCES;
-use v3_prefix::measure::ROUTER_PRIORITY;
-use v3_prefix::measure::measure_inter_area_prefix_lsa;
-use v3_prefix::measure::measure_intra_area_prefix_lsa;
-use v3_prefix::measure::measure_link_lsa;
+use v3_prefix_lsa::measure::METRIC;
+use v3_prefix_lsa::measure::OPTIONS;
+use v3_prefix_lsa::measure::REFERENCES;
+use v3_prefix_lsa::measure::ROUTER_PRIORITY;
+use v3_prefix_lsa::measure::measure_inter_area_prefix_lsa;
+use v3_prefix_lsa::measure::measure_intra_area_prefix_lsa;
+use v3_prefix_lsa::measure::measure_link_lsa;
 
 // What the fields of a body take.
 const ROUTER_FLAGS: usize = 55;

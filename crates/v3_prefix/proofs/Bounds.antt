@@ -1,4 +1,4 @@
--- How long the entries of a body can be: 18 bytes at most for each byte of the body, and 10.
+-- How long a list of prefixes can be: 18 bytes at most for each byte of the body. The entries of a whole body take 10 more.
 use Prim.Native.Nat.{ℕ, zero, suc, _+_, _*_, _≤_}
 use native.Mathlib.Omega.{arith}
 use mathlib.Core.Bool.{Bool, true, false, cond}
@@ -6,22 +6,17 @@ use mathlib.Core.List.{List}
 use mathlib.Core.Option.{Option, none, some}
 use mathlib.Core.Path.{_≡_, refl}
 use lib.Dec.{ltb}
-use lib.ListN.{length, getD}
+use lib.ListN.{length}
 use borrow.Author.Tests.{ltb-false}
 use Rattle.format.specs.Body as body
 use Rattle.format.specs.Body.Body.{raw}
-use Rattle.format.specs.Bytes.{be16At, be32At}
 use Rattle.format.specs.Cut.{cut, prefixRule}
-use Rattle.format.specs.Strip.{encode, code}
-use Rattle.format.specs.V3.{linkPrefixes, areaPrefixes, interAreaPrefixLsa, prefix, linkLsa, intraAreaPrefixLsa}
-use Rattle.format.proofs.Lists.{length-listing, length-uniform}
+use Rattle.format.specs.V3.{prefix}
+use Rattle.format.proofs.Lists.{length-uniform}
 use Rattle.format.proofs.Loop.{spread}
 use Rattle.format.proofs.Rules.{inside}
 use Rattle.format.proofs.Unique.{cut-none, cut-some}
 use Rattle.body.specs.Answers.{bytesOf}
-use Rattle.v3_prefix.specs.Fits.{fixedPrefixFits}
-use Rattle.v3_prefix.proofs.Bodies.{inter-area-prefix-raw, inter-area-prefix-decoded}
-use Rattle.v3_prefix.proofs.Fits.{fits-inside}
 use Rattle.v3_prefix.proofs.Lengths.{length-prefix}
 
 -- Entries of a list of prefixes have 4 bytes at least.
@@ -62,26 +57,3 @@ enough {k} b n y h = go (ltb (length b) n) refl
 
 abbrev pub most : List ℕ → ℕ
 most b = 10 + length b * 18
-
-module _ (b : List ℕ) (o : ℕ) where
-  pub inter-area-prefix-bound : Within (most b) (interAreaPrefixLsa b o)
-  unfolding encode code
-  inter-area-prefix-bound = go (fixedPrefixFits b) refl
-    where
-      go : (x : Option ℕ) → fixedPrefixFits b ≡ x → Within (most b) (interAreaPrefixLsa b o)
-      go none e = rw (inter-area-prefix-raw b o e) (record { bound = omega arith })
-      go (some n) e = let i = fits-inside b (getD b 4 0) 8 n e in rw (inter-area-prefix-decoded b o n e) (record { bound = omega arith })
-
-  pub link-bound : Within (most b) (linkLsa b o)
-  unfolding linkLsa spread encode code
-  link-bound = enough b 24 _ (λ h.
-      let l = length-listing 29 (prefix false b o) o 24 (linkPrefixes b) in
-      let k = prefixes-bound false b o (be32At b 20) 24 h in
-      omega arith)
-
-  pub intra-area-prefix-bound : Within (most b) (intraAreaPrefixLsa b o)
-  unfolding intraAreaPrefixLsa spread encode code
-  intra-area-prefix-bound = enough b 12 _ (λ h.
-      let l = length-listing 29 (prefix true b o) o 12 (areaPrefixes b) in
-      let k = prefixes-bound true b o (be16At b 0) 12 h in
-      omega arith)

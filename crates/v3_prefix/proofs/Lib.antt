@@ -1,4 +1,3 @@
 pub mod Fits
-pub mod Bodies
 pub mod Lengths
 pub mod Bounds

@@ -1,6 +1,5 @@
-// The parts of v3_lsa.rs with prefixes: whether one fits in a body, the Inter-Area-Prefix-LSA, a list of prefixes, and the
-// Link-LSA and Intra-Area-Prefix-LSA, which have one (RFC 5340 A.4.1, A.4.5, A.4.9, A.4.10). The fields that these share
-// with other LSAs are here too: Options (A.2) and the references.
+// The prefixes of version 3 (RFC 5340 A.4.1): whether one fits in a body, and a list of them. The LSAs that have a list are
+// in crate `v3_prefix_lsa`. The ids of the fields that these share with other LSAs are here too.
 ghost use mathlib.Core.Path.{_≡_};
 ghost use Prim.Native.Nat.{_+_, _≤_, _<_};
 ghost use mathlib.Core.Bool.{cond};
@@ -8,34 +7,23 @@ ghost use mathlib.Core.List.{flatMap};
 ghost use lib.ListN.{length};
 ghost use Rattle.format.specs.Body.{listing};
 ghost use Rattle.format.specs.Cut.{cut, after, prefixRule};
-ghost use Rattle.format.specs.Strip.{encode, code};
-ghost use Rattle.format.specs.V3.{options, references, prefixFits, interAreaPrefixLsa, prefix, linkLsa, intraAreaPrefixLsa};
+ghost use Rattle.format.specs.Strip.{encode};
+ghost use Rattle.format.specs.V3.{prefixFits, prefix};
 ghost use Rattle.format.specs.Wrote.{Wrote};
-ghost use Rattle.body.specs.Answers.{bytesOf, Pushed};
 ghost use Rattle.v3_prefix.specs.Fits.{fitOf, fixedPrefixFits, entryFits};
 ghost use Rattle.v3_prefix.specs.Parts.{prefixMetric, prefixFields};
-use body::Body;
 use body::Listed;
 use strip::push::begin_container;
 use strip::push::end_container;
-use strip::push::push_ipv4_at;
 use strip::push::push_ipv6_at;
-use strip::push::push_metric24_at;
 use strip::push::push_u8_at;
 use strip::push::push_u16_at;
-use strip::push::push_u24_at;
-use strip::push::push_u32_at;
-use strip::push::push_wide16_at;
 use tlv::PrefixOctets;
 use tlv::prefix_octets;
-use util::read_be_u16;
-use util::read_be_u32;
 
 pub mod measure;
 
 // Field ids of an LSA after those of its header.
-const OPTIONS: u8 = 14;
-
 pub const METRIC: u8 = 17;
 
 pub const PREFIX_LENGTH: u8 = 18;
@@ -48,15 +36,7 @@ pub const REFERENCED_LS_TYPE: u8 = 22;
 
 pub const REFERENCED_LINK_STATE_ID: u8 = 25;
 
-pub const ROUTER_PRIORITY: u8 = 26;
-
-const LINK_LOCAL_ADDRESS: u8 = 27;
-
-const NUM_PREFIXES: u8 = 28;
-
 const PREFIXES: u8 = 29;
-
-const REFERENCED_ADVERTISING_ROUTER: u8 = 30;
 
 // Field ids of a prefix in a list, and the prefix itself.
 const P_PREFIX_LENGTH: u8 = 80;
@@ -73,28 +53,6 @@ const PREFIX_ENTRY: u8 = 97;
 pub enum Fit {
     Octets(usize),
     Nothing,
-}
-
-// The options, of 24 bits (RFC 5340 A.2).
-pub fn push_options(strip: &mut [u8], at: usize, body: &[u8], o: u32) -> usize
-    requires { ⌜ at + 14 ≤ length (now strip) ⌝ }
-    requires { ⌜ 4 ≤ length (now body) ⌝ }
-    requires { ⌜ o + length (now body) < 4294967296 ⌝ }
-    ensures { λ r. ⌜ Wrote (now (strip .entry)) at (code (options (now (body .entry)) o)) (now (strip .exit)) r ⌝ }
-{
-    push_u24_at(strip, at, OPTIONS, body, 1, o)
-}
-
-// Referenced LS Type, Referenced Link State ID, Referenced Advertising Router (RFC 5340 A.4.10).
-pub fn push_references(strip: &mut [u8], at: usize, body: &[u8], o: u32) -> usize
-    requires { ⌜ at + 40 ≤ length (now strip) ⌝ }
-    requires { ⌜ 12 ≤ length (now body) ⌝ }
-    requires { ⌜ o + length (now body) < 4294967296 ⌝ }
-    ensures { λ r. ⌜ Wrote (now (strip .entry)) at (encode (references (now (body .entry)) o)) (now (strip .exit)) r ⌝ }
-{
-    let a = push_u16_at(strip, at, REFERENCED_LS_TYPE, body, 2, o);
-    let b = push_u32_at(strip, a, REFERENCED_LINK_STATE_ID, body, 4, o);
-    push_ipv4_at(strip, b, REFERENCED_ADVERTISING_ROUTER, body, 8, o)
 }
 
 // The octets of a prefix of so many bits, if they lie in a body from p on.
@@ -122,25 +80,6 @@ pub fn fixed_prefix_fits(body: &[u8]) -> Fit
     prefix_fits(body, body[4], 8)
 }
 
-// Inter-Area-Prefix-LSA: 0, Metric, PrefixLength, PrefixOptions, 0, Address Prefix (RFC 5340 A.4.5).
-pub fn push_inter_area_prefix_lsa(strip: &mut [u8], at: usize, body: &[u8], o: u32) -> Body
-    requires { ⌜ at + length (bytesOf (interAreaPrefixLsa (now body) o)) ≤ length (now strip) ⌝ }
-    requires { ⌜ o + length (now body) < 4294967296 ⌝ }
-    ensures { λ r. ⌜ Pushed (interAreaPrefixLsa (now (body .entry)) o) (now (strip .entry)) at (now (strip .exit)) r ⌝ }
-{
-    let Fit::Octets(n) = fixed_prefix_fits(body) else {
-        return Body::Raw;
-    };
-    let a = push_metric24_at(strip, at, METRIC, body, 1, o);
-    let b = push_u8_at(strip, a, PREFIX_LENGTH, body, 4, o);
-    let c = push_u8_at(strip, b, PREFIX_OPTIONS, body, 5, o);
-    let d = push_ipv6_at(strip, c, PREFIX, body, 8, n, o);
-    Body::Decoded {
-        at: d,
-        consumed: 8 + n,
-    }
-}
-
 // What a part takes that is present or not.
 pub fn present(has: bool, n: usize) -> usize
     ensures { λ r. ⌜ r ≡ cond has n 0 ⌝ }
@@ -160,7 +99,7 @@ fn entry_fits(body: &[u8], p: usize) -> Fit
 }
 
 // The prefixes from p on, at most as many as the count. The array is opened last, when its end is known.
-fn push_prefixes(
+pub fn push_prefixes(
     strip: &mut [u8],
     at: usize,
     body: &[u8],
@@ -278,43 +217,5 @@ fn push_prefix_metric(
         push_u16_at(strip, at, P_METRIC, body, p + 2, o)
     } else {
         at
-    }
-}
-
-// Link-LSA: Rtr Priority, Options, Link-local Interface Address, # prefixes, prefixes (RFC 5340 A.4.9).
-pub fn push_link_lsa(strip: &mut [u8], at: usize, body: &[u8], o: u32) -> Body
-    requires { ⌜ at + length (bytesOf (linkLsa (now body) o)) ≤ length (now strip) ⌝ }
-    requires { ⌜ o + length (now body) < 4294967296 ⌝ }
-    ensures { λ r. ⌜ Pushed (linkLsa (now (body .entry)) o) (now (strip .entry)) at (now (strip .exit)) r ⌝ }
-{
-    if body.len() < 24 {
-        return Body::Raw;
-    }
-    let a = push_u8_at(strip, at, ROUTER_PRIORITY, body, 0, o);
-    let b = push_options(strip, a, body, o);
-    let c = push_ipv6_at(strip, b, LINK_LOCAL_ADDRESS, body, 4, 16, o);
-    let d = push_u32_at(strip, c, NUM_PREFIXES, body, 20, o);
-    let prefixes = push_prefixes(strip, d, body, 24, read_be_u32(body, 20), false, o);
-    Body::Decoded {
-        at: prefixes.at,
-        consumed: prefixes.end,
-    }
-}
-
-// Intra-Area-Prefix-LSA: # Prefixes, references, prefixes with a metric (RFC 5340 A.4.10).
-pub fn push_intra_area_prefix_lsa(strip: &mut [u8], at: usize, body: &[u8], o: u32) -> Body
-    requires { ⌜ at + length (bytesOf (intraAreaPrefixLsa (now body) o)) ≤ length (now strip) ⌝ }
-    requires { ⌜ o + length (now body) < 4294967296 ⌝ }
-    ensures { λ r. ⌜ Pushed (intraAreaPrefixLsa (now (body .entry)) o) (now (strip .entry)) at (now (strip .exit)) r ⌝ }
-{
-    if body.len() < 12 {
-        return Body::Raw;
-    }
-    let a = push_wide16_at(strip, at, NUM_PREFIXES, body, 0, o);
-    let b = push_references(strip, a, body, o);
-    let prefixes = push_prefixes(strip, b, body, 12, read_be_u16(body, 0) as u32, true, o);
-    Body::Decoded {
-        at: prefixes.at,
-        consumed: prefixes.end,
     }
 }

@@ -39,10 +39,10 @@ use denote.Triple.Walked.{says, Stays, stay-none, stay-none-slice, walkOf, goes-
 use denote.Exit.{yes}
 use denote.Triple.Clauses.{ensured, lasts}
 use Rattle.format.specs.Strip.{stepAt}
-use Rattle.strip.specs.Answers.{stepOf}
-use Rattle.strip.specs.declared.step.Step.{Step}
-use Rattle.strip.proofs.step.Step as S
-use Rattle.strip.proofs.step.Step.Laws as S′
+use Rattle.step.specs.Answers.{stepOf}
+use Rattle.step.specs.declared.Step.{Step}
+use Rattle.step.proofs.Step as S
+use Rattle.step.proofs.Step.Laws as S′
 use Rattle.reader.specs.declared.Reader.{Reader}
 use Rattle.reader.proofs.Reader as T
 use Rattle.reader.proofs.Reader.Laws as T′

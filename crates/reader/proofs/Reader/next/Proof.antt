@@ -46,14 +46,14 @@ use denote.Triple.Table.{entered, cited}
 use denote.Triple.Walked.{says, Stays, stay-ref, walkOf, goes-ref, Walks, ends-at, walked, walk-meets}
 use denote.Triple.Clauses.{ensured, lasts}
 use Rattle.format.specs.Strip.{stepAt}
-use Rattle.strip.specs.Answers.{stepOf}
-use Rattle.strip.specs.declared.step.Step.{Step}
-use Rattle.strip.proofs.step.Step as S
-use Rattle.strip.proofs.step.Step.Laws as S′
-use Rattle.strip.proofs.step.step_at as step-at
-use Rattle.strip.proofs.step.step_at.Symbol as step-at-def
-use Rattle.strip.proofs.step.step_at.Symbol.{name as #step-at}
-use Rattle.strip.proofs.step.step_at.Met as step-at-thm
+use Rattle.step.specs.Answers.{stepOf}
+use Rattle.step.specs.declared.Step.{Step}
+use Rattle.step.proofs.Step as S
+use Rattle.step.proofs.Step.Laws as S′
+use Rattle.step.proofs.step_at as step-at
+use Rattle.step.proofs.step_at.Symbol as step-at-def
+use Rattle.step.proofs.step_at.Symbol.{name as #step-at}
+use Rattle.step.proofs.step_at.Met as step-at-thm
 use Rattle.reader.specs.After.{placeAfter}
 use Rattle.reader.specs.declared.Reader.{Reader}
 use Rattle.reader.proofs.Reader as T
@@ -226,5 +226,5 @@ next-spec 𝓤 H 𝓜 𝓖 𝓡 =
     entered 𝓤 H (tripleOf 𝓤 H (𝓖 .A) next.signature (next.spec 𝓤 H (𝓖 .A) (𝓜 .mem) (𝓡 .run)))
     (tables 𝓤 H 𝓜 𝓡 code.env .C) (tables 𝓤 H 𝓜 𝓡 code.env .Λ) #Reader·next code.function (code.unfolded 𝓤 H 𝓜 𝓡)
     (next-meets 𝓤 H (𝓖 .A) (givenOf 𝓤 H 𝓜 𝓖) (𝓜 .mem) (𝓡 .run) (tablesOf 𝓤 H 𝓜 (tables 𝓤 H 𝓜 𝓡 code.env))
-    (cited 𝓤 H (StepAt 𝓤 H (𝓖 .A) (𝓜 .mem) (𝓡 .run)) 𝓜 𝓡 code.env #step-at step-at-def.routine code.calls-strip·step·step-at (step-at-thm.met 𝓤 H 𝓜 𝓖 𝓡))
+    (cited 𝓤 H (StepAt 𝓤 H (𝓖 .A) (𝓜 .mem) (𝓡 .run)) 𝓜 𝓡 code.env #step-at step-at-def.routine code.calls-step·step-at (step-at-thm.met 𝓤 H 𝓜 𝓖 𝓡))
     (cited 𝓤 H (PlaceAfter 𝓤 H (𝓖 .A) (𝓜 .mem) (𝓡 .run)) 𝓜 𝓡 code.env #place-after place-after-def.routine code.calls-reader·place-after (place-after-thm.met 𝓤 H 𝓜 𝓖 𝓡)))

@@ -44,17 +44,17 @@ use denote.Triple.Walked.{says, Stays, stay-none, walkOf, goes-none, Walks, ends
 use denote.Exit.{yes}
 use denote.Triple.Clauses.{ensured, lasts}
 use Rattle.format.specs.Strip.{stepAt}
-use Rattle.strip.specs.Answers.{stepOf}
+use Rattle.step.specs.Answers.{stepOf}
 use Rattle.reader.specs.declared.Reader.{Reader}
-use Rattle.strip.specs.declared.step.Step.{Step}
+use Rattle.step.specs.declared.Step.{Step}
 use Rattle.reader.proofs.Reader as T
 use Rattle.reader.proofs.Reader.Laws as T′
-use Rattle.strip.proofs.step.Step as S
-use Rattle.strip.proofs.step.Step.Laws as S′
-use Rattle.strip.proofs.step.step_at as callee
-use Rattle.strip.proofs.step.step_at.Symbol as callee-def
-use Rattle.strip.proofs.step.step_at.Symbol.{name as #step-at}
-use Rattle.strip.proofs.step.step_at.Met as callee-thm
+use Rattle.step.proofs.Step as S
+use Rattle.step.proofs.Step.Laws as S′
+use Rattle.step.proofs.step_at as callee
+use Rattle.step.proofs.step_at.Symbol as callee-def
+use Rattle.step.proofs.step_at.Symbol.{name as #step-at}
+use Rattle.step.proofs.step_at.Met as callee-thm
 use Rattle.reader.proofs.Reader.step.Key.{name as #Reader·step}
 use Rattle.reader.proofs.Reader.step as step
 use Rattle.reader.proofs.Reader.step.Statement as stated
@@ -164,4 +164,4 @@ step-spec 𝓤 H 𝓜 𝓖 𝓡 =
     entered 𝓤 H (tripleOf 𝓤 H (𝓖 .A) step.signature (step.spec 𝓤 H (𝓖 .A) (𝓜 .mem) (𝓡 .run)))
     (tables 𝓤 H 𝓜 𝓡 code.env .C) (tables 𝓤 H 𝓜 𝓡 code.env .Λ) #Reader·step code.function (code.unfolded 𝓤 H 𝓜 𝓡)
     (step-meets 𝓤 H (𝓖 .A) (givenOf 𝓤 H 𝓜 𝓖) (𝓜 .mem) (𝓡 .run) (tablesOf 𝓤 H 𝓜 (tables 𝓤 H 𝓜 𝓡 code.env))
-    (cited 𝓤 H (StepAt 𝓤 H (𝓖 .A) (𝓜 .mem) (𝓡 .run)) 𝓜 𝓡 code.env #step-at callee-def.routine code.calls-strip·step·step-at (callee-thm.met 𝓤 H 𝓜 𝓖 𝓡)))
+    (cited 𝓤 H (StepAt 𝓤 H (𝓖 .A) (𝓜 .mem) (𝓡 .run)) 𝓜 𝓡 code.env #step-at callee-def.routine code.calls-step·step-at (callee-thm.met 𝓤 H 𝓜 𝓖 𝓡)))

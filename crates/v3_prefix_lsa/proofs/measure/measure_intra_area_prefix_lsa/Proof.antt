@@ -1,0 +1,58 @@
+use Rattle.body.proofs.Laws.{same-decoded}
+use native.Mathlib.Omega.{arith}
+use mathlib.Core.Bool.{true}
+use lib.ListN.{length}
+use borrow.Author.Needs.{needs}
+use borrow.Author.Tests.{lt-ltb, le-ltb}
+use Rattle.format.specs.Cut.{cut, prefixRule}
+use Rattle.format.specs.Strip.{encode, code}
+use Rattle.format.specs.V3.{prefix, intraAreaPrefixLsa}
+use Rattle.format.proofs.Lists.{length-listing}
+use Rattle.v3_prefix.proofs.Bounds.{prefixes-bound}
+use Rattle.v3_prefix_lsa.proofs.measure.measure_intra_area_prefix_lsa.Statement.{statement}
+use Rattle.v3_prefix_lsa.proofs.measure.measure_intra_area_prefix_lsa.Tie as tie
+
+returns : tie.Need-returns
+unfolding intraAreaPrefixLsa
+returns c = λ o. rw (lt-ltb (length (c .before .before .args .body .now)) 12 (omega arith))
+
+read-be-u16-requires : tie.Need-read-be-u16-requires
+read-be-u16-requires c κs = search needs
+
+cast-measure-prefixes : tie.Need-cast-measure-prefixes
+cast-measure-prefixes c = search needs
+
+measure-prefixes-requires : tie.Need-measure-prefixes-requires
+measure-prefixes-requires c κs = search needs
+
+add-t3 : tie.Need-add-t3
+add-t3 c = search needs
+
+add-t7 : tie.Need-add-t7
+add-t7 c =
+    let b = c .before .before .before .before .before .args .body .now in
+    let n = c .before .before .read-be-u16 .result in
+    let e = c .before .measure-prefixes .ensures .0 0 in
+    let l = length-listing 29 (prefix true b 0) 0 12 (cut prefixRule b n 12) in
+    let h = prefixes-bound true b 0 n 12 (omega arith) in
+    omega arith
+
+returns-2 : tie.Need-returns-2
+unfolding intraAreaPrefixLsa encode code
+returns-2 c =
+    let k = c .before .measure-prefixes .ensures in
+    λ o.
+    let e = rw (c .before .before .read-be-u16 .ensures) at (k .0 o) in
+    rw (le-ltb (length (c .before .before .before .before .before .args .body .now)) 12 (omega arith)) (same-decoded (omega arith) (rw (c .before .before .read-be-u16 .ensures) at (k .1)))
+
+pub measure-intra-area-prefix-lsa-spec : {M : Type 1} → statement M
+measure-intra-area-prefix-lsa-spec =
+    tie.close
+    (tie.spec
+    returns
+    read-be-u16-requires
+    cast-measure-prefixes
+    measure-prefixes-requires
+    add-t3
+    add-t7
+    returns-2)

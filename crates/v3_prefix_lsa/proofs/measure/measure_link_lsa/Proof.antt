@@ -1,0 +1,62 @@
+use Rattle.body.proofs.Laws.{same-decoded}
+use native.Mathlib.Omega.{arith}
+use mathlib.Core.Bool.{false}
+use lib.ListN.{length}
+use borrow.Author.Needs.{needs}
+use borrow.Author.Tests.{lt-ltb, le-ltb}
+use Rattle.format.specs.Cut.{cut, prefixRule}
+use Rattle.format.specs.Strip.{encode, code}
+use Rattle.format.specs.V3.{prefix, linkLsa}
+use Rattle.format.proofs.Lists.{length-listing}
+use Rattle.v3_prefix.proofs.Bounds.{prefixes-bound}
+use Rattle.v3_prefix_lsa.proofs.measure.measure_link_lsa.Statement.{statement}
+use Rattle.v3_prefix_lsa.proofs.measure.measure_link_lsa.Tie as tie
+
+returns : tie.Need-returns
+unfolding linkLsa
+returns c = λ o. rw (lt-ltb (length (c .before .before .args .body .now)) 24 (omega arith))
+
+read-be-u32-requires : tie.Need-read-be-u32-requires
+read-be-u32-requires c κs = search needs
+
+measure-prefixes-requires : tie.Need-measure-prefixes-requires
+measure-prefixes-requires c κs = search needs
+
+add-t3 : tie.Need-add-t3
+add-t3 c = search needs
+
+add-t6 : tie.Need-add-t6
+add-t6 c = search needs
+
+add-t7 : tie.Need-add-t7
+add-t7 c = search needs
+
+add-t8 : tie.Need-add-t8
+add-t8 c =
+    let b = c .before .before .before .before .before .args .body .now in
+    let n = c .before .before .read-be-u32 .result in
+    let e = c .before .measure-prefixes .ensures .0 0 in
+    let l = length-listing 29 (prefix false b 0) 0 24 (cut prefixRule b n 24) in
+    let h = prefixes-bound false b 0 n 24 (omega arith) in
+    omega arith
+
+returns-2 : tie.Need-returns-2
+unfolding linkLsa encode code
+returns-2 c =
+    let k = c .before .measure-prefixes .ensures in
+    λ o.
+    let e = rw (c .before .before .read-be-u32 .ensures) at (k .0 o) in
+    rw (le-ltb (length (c .before .before .before .before .before .args .body .now)) 24 (omega arith)) (same-decoded (omega arith) (rw (c .before .before .read-be-u32 .ensures) at (k .1)))
+
+pub measure-link-lsa-spec : {M : Type 1} → statement M
+measure-link-lsa-spec =
+    tie.close
+    (tie.spec
+    returns
+    read-be-u32-requires
+    measure-prefixes-requires
+    add-t3
+    add-t6
+    add-t7
+    add-t8
+    returns-2)

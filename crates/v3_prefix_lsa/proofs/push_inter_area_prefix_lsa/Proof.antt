@@ -1,0 +1,103 @@
+use native.Mathlib.Omega.{arith}
+use mathlib.Core.Option.{some}
+use mathlib.Core.Path.{_≡_, refl}
+use lib.ListN.{getD}
+use borrow.Author.Needs.{needs}
+use Rattle.format.specs.Strip.{encode, code}
+use Rattle.format.proofs.Wrote.{then}
+use Rattle.body.proofs.Laws.{pushed-decoded, pushed-raw}
+use Rattle.v3_prefix.specs.Fits.{fixedPrefixFits}
+use Rattle.v3_prefix_lsa.proofs.Bodies.{inter-area-prefix-raw, inter-area-prefix-decoded}
+use Rattle.v3_prefix.proofs.Fits.{some-of, none-of, fits-inside}
+use Rattle.v3_prefix_lsa.proofs.push_inter_area_prefix_lsa.Statement.{statement}
+use Rattle.v3_prefix_lsa.proofs.push_inter_area_prefix_lsa.Tie as tie
+
+fixed-prefix-fits-requires : tie.Need-fixed-prefix-fits-requires
+fixed-prefix-fits-requires c κs = search needs
+
+enum-known-n : tie.Need-enum-known-n
+enum-known-n c = search needs
+
+enum-told : tie.Need-enum-told
+enum-told c = search needs
+
+returns : tie.Need-returns
+returns c =
+    let b = c .before .before .before .before .before .args .body .now in
+    rw (inter-area-prefix-raw b (c .before .before .before .before .before .args .o) (none-of (fixedPrefixFits b) (c .before .before .fixed-prefix-fits .result) (c .before .before .fixed-prefix-fits .ensures) (c .enum-told .given .1)))
+    (pushed-raw _ _)
+
+fits : (c : tie.After-known-told) → fixedPrefixFits (c .before .before .before .before .before .before .args .body .now) ≡ some (c .before .n .given .0 .0)
+fits c = let k = c .before .before .before in some-of _ _ (k .fixed-prefix-fits .result) (k .fixed-prefix-fits .ensures) (c .before .n .given .1)
+
+push-metric24-at-requires : tie.Need-push-metric24-at-requires
+unfolding encode code
+push-metric24-at-requires c κs =
+    let s = c .before .before .before .before .before .before .before in
+    let b = s .args .body .now in
+    let f = fits (c .before) in
+    let h = rw (inter-area-prefix-decoded b (s .args .o) _ f) at (s .pre .0) in
+    let i = fits-inside b (getD b 4 0) 8 _ f in
+    omega arith
+
+push-u8-at-requires : tie.Need-push-u8-at-requires
+unfolding encode code
+push-u8-at-requires c κs =
+    let s = c .before .before .before .before .before .before .before .before .before .before .before in
+    let b = s .args .body .now in
+    let f = fits (c .before .before .before .before .before) in
+    let h = rw (inter-area-prefix-decoded b (s .args .o) _ f) at (s .pre .0) in
+    let i = fits-inside b (getD b 4 0) 8 _ f in
+    omega arith
+
+push-u8-at-requires-2 : tie.Need-push-u8-at-requires-2
+unfolding encode code
+push-u8-at-requires-2 c κs =
+    let s = c .before .before .before .before .before .before .before .before .before .before .before .before .before .before .before in
+    let b = s .args .body .now in
+    let f = fits (c .before .before .before .before .before .before .before .before .before) in
+    let h = rw (inter-area-prefix-decoded b (s .args .o) _ f) at (s .pre .0) in
+    let i = fits-inside b (getD b 4 0) 8 _ f in
+    omega arith
+
+push-ipv6-at-requires : tie.Need-push-ipv6-at-requires
+unfolding encode code
+push-ipv6-at-requires c κs =
+    let s = c .before .before .before .before .before .before .before .before .before .before .before .before .before .before .before .before .before .before .before in
+    let b = s .args .body .now in
+    let f = fits (c .before .before .before .before .before .before .before .before .before .before .before .before .before) in
+    let h = rw (inter-area-prefix-decoded b (s .args .o) _ f) at (s .pre .0) in
+    let i = fits-inside b (getD b 4 0) 8 _ f in
+    omega arith
+
+add-t19 : tie.Need-add-t19
+add-t19 c =
+    let b = c .before .before .before .before .before .before .before .before .before .before .before .before .before .before .before .before .before .before .before .before .before .before .args .body .now in
+    let i = fits-inside b (getD b 4 0) 8 _ (fits (c .before .before .before .before .before .before .before .before .before .before .before .before .before .before .before .before)) in
+    omega arith
+
+same-length : tie.Need-same-length
+same-length c = search needs
+
+returns-2 : tie.Need-returns-2
+unfolding encode code
+returns-2 c =
+    rw (inter-area-prefix-decoded (c .before .before .before .before .before .before .before .before .before .before .before .before .before .before .before .before .before .before .before .before .before .before .args .body .now) (c .before .before .before .before .before .before .before .before .before .before .before .before .before .before .before .before .before .before .before .before .before .before .args .o) _ (fits (c .before .before .before .before .before .before .before .before .before .before .before .before .before .before .before .before)))
+    (pushed-decoded _ _ _ refl
+    (then (then (then (c .before .before .before .before .before .before .before .before .before .before .before .before .before .before .push-metric24-at .ensures) (c .before .before .before .before .before .before .before .before .before .before .push-u8-at .ensures)) (c .before .before .before .before .before .before .push-u8-at2 .ensures)) (c .before .before .push-ipv6-at .ensures)))
+
+pub push-inter-area-prefix-lsa-spec : {M : Type 1} → statement M
+push-inter-area-prefix-lsa-spec =
+    tie.close
+    (tie.spec
+    fixed-prefix-fits-requires
+    enum-known-n
+    enum-told
+    returns
+    push-metric24-at-requires
+    push-u8-at-requires
+    push-u8-at-requires-2
+    push-ipv6-at-requires
+    add-t19
+    same-length
+    returns-2)
