@@ -5,7 +5,7 @@ ghost use Prim.Native.Nat.{_+_, _≤_, _<_};
 ghost use lib.ListN.{length};
 ghost use Rattle.format.specs.Wrote.{Wrote};
 ghost use Rattle.format.specs.Print.{digits, spaced, hexDigit, hex, place, dot, dotted};
-use strip::put::put_u8;
+use put::put_u8;
 
 pub const SPACE: u8 = 32;
 

@@ -13,8 +13,8 @@ use digits::put_hex;
 use digits::put_place;
 use digits::put_spaced;
 use digits::put_word;
+use put::put_u8;
 use step::Entry;
-use strip::put::put_u8;
 
 // No line is longer.
 pub const LINE: usize = 160;

@@ -1,4 +1,2 @@
-// The strip: what writes its entries. What reads one back is in crate `step`.
+// The strip: what writes its entries. What writes their numbers is in crate `put`, what reads an entry back in crate `step`.
 pub mod push;
-pub mod put;
-mod swap;

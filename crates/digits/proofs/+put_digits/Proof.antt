@@ -10,7 +10,7 @@ use borrow.Fn.PlainCycle.{Measures, is, falls, and}
 use Rattle.digits.proofs.put_digits.Reads as put-digits
 use Rattle.digits.proofs.put_digits.Kinds as put-digits-kinds
 use Rattle.digits.proofs.+put_digits.Lts-put_digits as put-digits-lts
-use Rattle.strip.proofs.put.put_u8.Reads as put-u8-reads
+use Rattle.put.proofs.put_u8.Reads as put-u8-reads
 use Rattle.digits.proofs.+put_digits.{statement}
 use Rattle.digits.proofs.+put_digits.Tie.{close}
 

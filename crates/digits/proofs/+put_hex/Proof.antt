@@ -12,7 +12,7 @@ use Rattle.digits.proofs.put_hex.Reads as put-hex
 use Rattle.digits.proofs.put_hex.Kinds as put-hex-kinds
 use Rattle.digits.proofs.+put_hex.Lts-put_hex as put-hex-lts
 use Rattle.digits.proofs.hex_digit.Reads as hex-digit-reads
-use Rattle.strip.proofs.put.put_u8.Reads as put-u8-reads
+use Rattle.put.proofs.put_u8.Reads as put-u8-reads
 use Rattle.digits.proofs.+put_hex.{statement}
 use Rattle.digits.proofs.+put_hex.Tie.{close}
 

@@ -1,7 +1,7 @@
-use Rattle.strip.specs.Swap.{swap64}
+use Rattle.put.specs.Swap.{swap64}
 use borrow.Author.Needs.{needs}
-use Rattle.strip.proofs.swap.swap_u64.Statement.{statement}
-use Rattle.strip.proofs.swap.swap_u64.Tie as tie
+use Rattle.put.proofs.swap.swap_u64.Statement.{statement}
+use Rattle.put.proofs.swap.swap_u64.Tie as tie
 
 cast-swap-u32 : tie.Need-cast-swap-u32
 cast-swap-u32 c = search needs

@@ -1,7 +1,7 @@
 use Rattle.format.proofs.Wrote.{then}
 use borrow.Author.Needs.{needs}
-use Rattle.strip.proofs.swap.put_le64.Statement.{statement}
-use Rattle.strip.proofs.swap.put_le64.Tie as tie
+use Rattle.put.proofs.swap.put_le64.Statement.{statement}
+use Rattle.put.proofs.swap.put_le64.Tie as tie
 
 cast-put-le32 : tie.Need-cast-put-le32
 cast-put-le32 c = search needs

@@ -1,8 +1,8 @@
 use native.Mathlib.Omega.{arith}
-use Rattle.strip.proofs.SwapLaws.{swapped16, written-as}
+use Rattle.put.proofs.SwapLaws.{swapped16, written-as}
 use borrow.Author.Needs.{needs}
-use Rattle.strip.proofs.put.put_u16.Statement.{statement}
-use Rattle.strip.proofs.put.put_u16.Tie as tie
+use Rattle.put.proofs.put_u16.Statement.{statement}
+use Rattle.put.proofs.put_u16.Tie as tie
 
 swap-u16-requires : tie.Need-swap-u16-requires
 swap-u16-requires c κs = search needs

@@ -1,9 +1,9 @@
 use native.Mathlib.Omega.{arith}
-use Rattle.strip.proofs.SwapLaws.{swapped-range, written-as}
+use Rattle.put.proofs.SwapLaws.{swapped-range, written-as}
 use Rattle.format.proofs.Wrote.{then}
 use borrow.Author.Needs.{needs}
-use Rattle.strip.proofs.put.put_head_at.Statement.{statement}
-use Rattle.strip.proofs.put.put_head_at.Tie as tie
+use Rattle.put.proofs.put_head_at.Statement.{statement}
+use Rattle.put.proofs.put_head_at.Tie as tie
 
 put-u8-requires : tie.Need-put-u8-requires
 put-u8-requires c κs = search needs

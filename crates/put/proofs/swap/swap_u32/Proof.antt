@@ -1,7 +1,7 @@
-use Rattle.strip.specs.Swap.{swap32}
+use Rattle.put.specs.Swap.{swap32}
 use borrow.Author.Needs.{needs}
-use Rattle.strip.proofs.swap.swap_u32.Statement.{statement}
-use Rattle.strip.proofs.swap.swap_u32.Tie as tie
+use Rattle.put.proofs.swap.swap_u32.Statement.{statement}
+use Rattle.put.proofs.swap.swap_u32.Tie as tie
 
 cast-swap-u16 : tie.Need-cast-swap-u16
 cast-swap-u16 c = search needs

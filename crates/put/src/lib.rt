@@ -12,6 +12,8 @@ use crate::swap::swap_u16;
 use crate::swap::swap_u32;
 use crate::swap::swap_u64;
 
+mod swap;
+
 pub fn put_u8(strip: &mut [u8], at: usize, x: u8) -> usize
     requires { ⌜ at < length (now strip) ⌝ }
     ensures { λ r. ⌜ Wrote (now (strip .entry)) at (x ∷ []) (now (strip .exit)) r ⌝ }

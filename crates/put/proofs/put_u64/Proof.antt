@@ -1,7 +1,7 @@
 use Rattle.format.proofs.Wrote.{then}
 use borrow.Author.Needs.{needs}
-use Rattle.strip.proofs.put.put_u64.Statement.{statement}
-use Rattle.strip.proofs.put.put_u64.Tie as tie
+use Rattle.put.proofs.put_u64.Statement.{statement}
+use Rattle.put.proofs.put_u64.Tie as tie
 
 cast-put-u32 : tie.Need-cast-put-u32
 cast-put-u32 c = search needs

@@ -1,7 +1,7 @@
 use Rattle.format.proofs.Wrote.{then}
 use borrow.Author.Needs.{needs}
-use Rattle.strip.proofs.swap.put_le16.Statement.{statement}
-use Rattle.strip.proofs.swap.put_le16.Tie as tie
+use Rattle.put.proofs.swap.put_le16.Statement.{statement}
+use Rattle.put.proofs.swap.put_le16.Tie as tie
 
 cast-put-u8 : tie.Need-cast-put-u8
 cast-put-u8 c = search needs

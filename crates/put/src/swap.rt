@@ -4,8 +4,8 @@ ghost use mathlib.Core.Path.{_≡_};
 ghost use Prim.Native.Nat.{_+_, _≤_};
 ghost use lib.ListN.{length};
 ghost use Rattle.format.specs.Wrote.{Wrote};
-ghost use Rattle.strip.specs.Swap.{swap16, swap32, swap64, le16, le32, le64};
-use crate::put::put_u8;
+ghost use Rattle.put.specs.Swap.{swap16, swap32, swap64, le16, le32, le64};
+use crate::put_u8;
 
 pub fn swap_u16(x: u16) -> u16
     ensures { λ r. ⌜ r ≡ swap16 x ⌝ }

@@ -1,7 +1,7 @@
 use Rattle.format.proofs.Wrote.{then}
 use borrow.Author.Needs.{needs}
-use Rattle.strip.proofs.swap.put_le32.Statement.{statement}
-use Rattle.strip.proofs.swap.put_le32.Tie as tie
+use Rattle.put.proofs.swap.put_le32.Statement.{statement}
+use Rattle.put.proofs.swap.put_le32.Tie as tie
 
 cast-put-le16 : tie.Need-cast-put-le16
 cast-put-le16 c = search needs

@@ -1,8 +1,8 @@
 use mathlib.Core.Path.{refl}
-use Rattle.strip.specs.Swap.{swap16}
+use Rattle.put.specs.Swap.{swap16}
 use borrow.Author.Needs.{needs}
-use Rattle.strip.proofs.swap.swap_u16.Statement.{statement}
-use Rattle.strip.proofs.swap.swap_u16.Tie as tie
+use Rattle.put.proofs.swap.swap_u16.Statement.{statement}
+use Rattle.put.proofs.swap.swap_u16.Tie as tie
 
 mul-result : tie.Need-mul-result
 mul-result c = search needs

@@ -1,8 +1,8 @@
 use native.Mathlib.Omega.{arith}
-use Rattle.strip.proofs.SwapLaws.{swapped32, written-as}
+use Rattle.put.proofs.SwapLaws.{swapped32, written-as}
 use borrow.Author.Needs.{needs}
-use Rattle.strip.proofs.put.put_u32.Statement.{statement}
-use Rattle.strip.proofs.put.put_u32.Tie as tie
+use Rattle.put.proofs.put_u32.Statement.{statement}
+use Rattle.put.proofs.put_u32.Tie as tie
 
 swap-u32-requires : tie.Need-swap-u32-requires
 swap-u32-requires c κs = search needs
