@@ -1,6 +1,6 @@
 // A walk's answer, and what every walk has: its refusals, and the ids of its containers and of unparsed bytes.
 ghost use mathlib.Core.Path.{_≡_};
-ghost use Prim.Native.Nat.{ℕ, _+_, _≤_, _<_};
+ghost use Prim.Native.Nat.{_<_};
 ghost use lib.ListN.{length};
 ghost use Rattle.format.specs.Walks.{isKnown, refusal, answer, unparsedId};
 ghost use Rattle.answer.specs.Answers.{answered};

@@ -9,7 +9,7 @@ ghost use Rattle.format.specs.Cut.{after, recordRule};
 ghost use Rattle.format.specs.Header.{headerSize};
 ghost use Rattle.format.specs.Walks.{maxData, maxOffset, lsaObject, lsas, updateOf, outer, answerOf, stripOf};
 ghost use Rattle.answer.specs.Answers.{answered};
-ghost use Rattle.common.specs.Answers.{fitOf};
+ghost use Rattle.fit.specs.Answers.{fitOf};
 use answer::Answer;
 use answer::LSA;
 use answer::OUTER;
@@ -19,6 +19,7 @@ use answer::refused;
 use answer::unparsed_id;
 use body::measure_unparsed;
 use body::push_unparsed;
+use fit::Fit;
 use header::LsaHeader;
 use single_lsa::measure_lsa;
 use single_lsa::push_lsa_at;
@@ -29,12 +30,6 @@ use util::read_be_u16;
 
 // The first LSA follows the number of LSAs.
 const FIRST: usize = 4;
-
-// The length of the LSA that stands at a place of an update, if one does.
-pub enum Fit {
-    Bytes(usize),
-    Nothing,
-}
 
 // The LSAs of an update, measured: the length of their objects' entries, their number, and where the last one ends.
 pub struct Lsas {

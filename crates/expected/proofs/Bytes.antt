@@ -5,11 +5,10 @@ use native.Mathlib.Omega.{arith}
 use mathlib.Core.Path.{_≡_, refl, sym, ap, _∙_}
 use mathlib.Core.Bool.{Bool, true, false, cond}
 use mathlib.Core.List.{List, [], _∷_, _++_}
-use lib.ListN.{length, getD, take, drop, set, drop-of-length-le, length-drop, length-replicate, take-append-drop, getD-replicate, replicate-append-replicate}
+use lib.ListN.{length, getD, take, drop, set, drop-of-length-le, length-replicate, take-append-drop, getD-replicate, replicate-append-replicate}
 use lib.Seq.{drop-cons, length-take-le, take-suc-set}
 use lib.Dec.{eqb}
 use borrow.Author.Tests.{eq-eqb, ne-eqb}
-use Rattle.format.specs.Bytes.{part}
 use Rattle.expected.specs.Expected.{sameBytes, lent}
 
 module _ (a b : List ℕ) (i : ℕ) (h : i < length a) (k : i < length b) where
@@ -54,10 +53,6 @@ same-append (v ∷ a) (u ∷ x) b y h = go (eqb v u) (same-append a x b y (omega
 
 pub same-parts : (s x y : List ℕ) (k : ℕ) → k ≤ length s → length x ≡ k → sameBytes s (x ++ y) ≡ cond (sameBytes (take k s) x) (sameBytes (drop k s) y) false
 same-parts s x y k h e = ap (λ (l : List ℕ). sameBytes l (x ++ y)) (sym (take-append-drop k s)) ∙ same-append (take k s) x (drop k s) y (length-take-le k s h ∙ sym e)
-
--- a part that lies in the file has its length
-pub part-length : (b : List ℕ) (p n : ℕ) → p + n ≤ length b → length (part b p n) ≡ n
-part-length b p n h = length-take-le n (drop p b) (rw (length-drop p b) (omega arith))
 
 pub lent-length : (room : ℕ) → length (lent room) ≡ room
 lent-length room = length-replicate {A = ℕ} room 165

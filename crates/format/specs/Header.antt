@@ -1,6 +1,6 @@
 -- The LSA header of 20 bytes, its entries in a strip, and which of two instances is newer.
 use Prim.Native.Nat.{ℕ, _+_, _-_, _%_}
-use mathlib.Core.Bool.{Bool, true, false, cond, not}
+use mathlib.Core.Bool.{Bool, false, cond}
 use mathlib.Core.List.{List, [], _∷_, _++_}
 use lib.ListN.{getD}
 use lib.Dec.{leb, ltb, eqb}

@@ -1,6 +1,6 @@
 -- LSA bodies of version 2: RFC 2328 A.4, RFC 3101 for the Nt bit and type 7, RFC 5250 for opaque LSAs.
-use Prim.Native.Nat.{ℕ, _+_, _%_}
-use mathlib.Core.Bool.{Bool, true, false, cond}
+use Prim.Native.Nat.{ℕ, _+_}
+use mathlib.Core.Bool.{Bool, true, cond}
 use mathlib.Core.List.{List, [], _∷_, _++_}
 use lib.ListN.{length, getD, drop}
 use lib.Dec.{ltb, eqb}

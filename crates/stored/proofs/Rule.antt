@@ -10,9 +10,7 @@ use lib.Dec.{leb}
 use borrow.Author.Tests.{le-leb, lt-leb, leb-true}
 use Rattle.format.specs.Cut.{standing, fitting}
 use Rattle.format.proofs.Rules.{inside}
-use Rattle.stored.specs.Stored.{walkAt, roomAt, answerAt, callSize, isCall, callRule, fitOf}
-use Rattle.stored.specs.declared.Fit.{Fit}
-use Rattle.stored.specs.declared.Fit.the-variants.{Bytes, Nothing}
+use Rattle.stored.specs.Stored.{walkAt, roomAt, answerAt, callSize, isCall, callRule}
 
 -- A call of n bytes stands at p.
 pub record Stands (most : ℕ) (b : List ℕ) (p n : ℕ) : Type 0 where
@@ -60,12 +58,3 @@ module _ (most : ℕ) (b : List ℕ) (p : ℕ) where
       go : (t : Bool) → isCall most b p ≡ t → cond t (some (callSize b p)) none ≡ some n → p + n ≤ length b → Stands most b p n
       go true h q w = let z : n ≡ callSize b p = cc in record { within = omega arith; long = z; roomy = roomy h }
       go false h q w = let z : _≡_ {A = ℕ} 0 1 = cc in absurd (omega arith)
-
--- The code's answer tells the rule's.
-pub some-of : (x : Option ℕ) (n : ℕ) (y : Fit) → y ≡ fitOf x → y ≡ Bytes n → x ≡ some n
-some-of (some m) n y e h = let z : m ≡ n = cc in rw z
-some-of none n y e h = let z : _≡_ {A = ℕ} 0 1 = cc in absurd (omega arith)
-
-pub none-of : (x : Option ℕ) (y : Fit) → y ≡ fitOf x → y ≡ Nothing → x ≡ none
-none-of (some m) y e h = let z : _≡_ {A = ℕ} 0 1 = cc in absurd (omega arith)
-none-of none y e h = refl

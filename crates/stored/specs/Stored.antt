@@ -2,13 +2,11 @@
 use Prim.Native.Nat.{ℕ, _+_}
 use mathlib.Core.Bool.{Bool, false, cond}
 use mathlib.Core.List.{List}
-use mathlib.Core.Option.{Option, none, some}
+use mathlib.Core.Option.{none, some}
 use lib.ListN.{getD}
 use lib.Dec.{leb, eqb}
 use Rattle.format.specs.Bytes.{be32At}
 use Rattle.format.specs.Cut.{Rule, standing}
-use Rattle.stored.specs.declared.Fit.{Fit}
-use Rattle.stored.specs.declared.Fit.the-variants.{Bytes, Nothing}
 
 -- Of the call at p: the walk, the lent buffer's length, the length of the data, and where the answer stands.
 abbrev pub walkAt : List ℕ → ℕ → ℕ
@@ -41,8 +39,3 @@ isOf b w n p = cond (eqb (walkAt b p) w) (eqb (getD b (answerAt b p) 0) n) false
 -- The length of the call that stands whole at a place of a file, if one does.
 abbrev pub callRule : ℕ → Rule
 callRule most = standing 35 (λ b p. cond (isCall most b p) (some (callSize b p)) none)
-
--- The code's answer for the rule's.
-abbrev pub fitOf : Option ℕ → Fit
-fitOf none = Nothing
-fitOf (some n) = Bytes n

@@ -3,7 +3,9 @@
 ghost use mathlib.Core.Path.{_≡_};
 ghost use Prim.Native.Nat.{_+_, _≤_};
 ghost use lib.ListN.{length};
-ghost use Rattle.stored.specs.Stored.{callRule, callSize, isCall, isOf, keptAt, sizeAt, fitOf};
+ghost use Rattle.stored.specs.Stored.{callRule, callSize, isCall, isOf, keptAt, sizeAt};
+ghost use Rattle.fit.specs.Answers.{fitOf};
+use fit::Fit;
 use util::read_be_u32;
 
 // The bytes before the data, and those of the answer after it.
@@ -14,12 +16,6 @@ pub const ANSWER: usize = 13;
 const WALKS: u8 = 2;
 
 const NUMBERS: u8 = 5;
-
-// The length of the call that stands at a place, if one does.
-pub enum Fit {
-    Bytes(usize),
-    Nothing,
-}
 
 pub fn call_fits(file: &[u8], pos: usize, most: usize) -> Fit
     requires { ⌜ pos ≤ length (now file) ⌝ }

@@ -1,6 +1,5 @@
 // Entries into a strip. A field's range is the n bytes from p on of a body whose first byte is at the place o of the packet.
 // A function whose name ends in `_at` takes the field's value from there too; so a field's range and its value cannot part.
-ghost use mathlib.Core.Path.{_≡_};
 ghost use Prim.Native.Nat.{_+_, _≤_, _<_};
 ghost use lib.ListN.{length};
 ghost use Rattle.format.specs.Strip.{Entry, code, u8At, bitAt, lowBitsAt, u16At, u24At, metric24At, wide16At, u32At, ip4At, bytesAt};

@@ -5,7 +5,7 @@ ghost use Rattle.format.specs.Cut.{after};
 ghost use Rattle.stored.specs.Stored.{isOf};
 ghost use Rattle.tally.specs.Calls.{calls, countOf, differs, firstOf};
 use agreement::agrees;
-use stored::Fit;
+use fit::Fit;
 use stored::call_fits;
 use stored::is_of;
 

@@ -4,7 +4,7 @@ use native.Mathlib.Nat.{add-zero}
 use native.Mathlib.Omega.{arith}
 use mathlib.Core.Path.{_≡_, refl, sym, ap, _∙_}
 use mathlib.Core.List.{List, [], _∷_, _++_, flatMap}
-use mathlib.Core.Option.{Option, none, some}
+use mathlib.Core.Option.{some}
 use lib.ListN.{length, getD, take, drop}
 use Rattle.format.specs.Strip.{Entry, code, encode}
 use Rattle.format.specs.Strip.Entry.{opens, closes}
@@ -17,18 +17,6 @@ use Rattle.format.proofs.Loop.{spread}
 use Rattle.format.proofs.Lists.{length-container, length-listing, length-uniform, fixed-cut, listed, if-none, if-some}
 use Rattle.format.proofs.Unique.{span}
 use Rattle.body.proofs.Lent.{lent-u8, lent-u16, lent-wide16, lent-ip4}
-use Rattle.v2_router.specs.Answers.{fitOf}
-use Rattle.v2_router.specs.declared.Fit.{Fit}
-use Rattle.v2_router.specs.declared.Fit.the-variants.{Bytes, Nothing}
-
--- The code's answer tells the rule's.
-pub some-of : (x : Option ℕ) (n : ℕ) (y : Fit) → y ≡ fitOf x → y ≡ Bytes n → x ≡ some n
-some-of (some m) n y e h = let z : m ≡ n = cc in rw z
-some-of none n y e h = let z : _≡_ {A = ℕ} 0 1 = cc in absurd (omega arith)
-
-pub none-of : (x : Option ℕ) (y : Fit) → y ≡ fitOf x → y ≡ Nothing → x ≡ none
-none-of (some m) y e h = let z : _≡_ {A = ℕ} 0 1 = cc in absurd (omega arith)
-none-of none y e h = refl
 
 -- A link that stands lies in the body, and is as long as its TOS metrics make it.
 pub link-inside : (b : List ℕ) (p n : ℕ) → linkRule b p ≡ some n → (p + n ≤ length b) × (n ≡ 12 + getD b (p + 9) 0 * 4)

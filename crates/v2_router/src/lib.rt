@@ -11,9 +11,10 @@ ghost use Rattle.format.specs.Cut.{cut, after, linkRule, fixedRule};
 ghost use Rattle.format.specs.Body.{listing, listingIfAny};
 ghost use Rattle.format.specs.V2.{link, linkFields, linkTos, linkTosSpans, links, routerFlags, routerLsa2};
 ghost use Rattle.body.specs.Answers.{Pushed, bytesOf};
-ghost use Rattle.v2_router.specs.Answers.{fitOf};
+ghost use Rattle.fit.specs.Answers.{fitOf};
 use body::Body;
 use body::Listed;
+use fit::Fit;
 use strip::push::begin_container;
 use strip::push::begin_container_at;
 use strip::push::end_container;
@@ -69,12 +70,6 @@ const OPEN_LENGTH: usize = 10;
 
 // A link without its TOS metrics.
 const LINK_SIZE: usize = 12;
-
-// How many bytes the link at a place has, if one stands there.
-pub enum Fit {
-    Bytes(usize),
-    Nothing,
-}
 
 // RFC 2328 A.4.2: flags, 0, # links, links.
 pub fn push_router_lsa(strip: &mut [u8], at: usize, body: &[u8], o: u32) -> Body

@@ -9,10 +9,10 @@ ghost use Rattle.format.specs.Cut.{Span, cut, after, linkRule};
 ghost use Rattle.format.specs.Body.{listingIfAny};
 ghost use Rattle.format.specs.V2.{link, routerLsa2};
 ghost use Rattle.body.specs.Answers.{measuredOf};
-use crate::Fit;
 use crate::link_fits;
 use body::Body;
 use body::Listed;
+use fit::Fit;
 use util::read_be_u16;
 
 // The lengths of entries by kind, and of a container without what is inside.

@@ -1,5 +1,7 @@
--- `reader::step_from` meets its contract: a walk of its MIR, by hand. A `Reader` that one call returns is held in a local and passed to the next. All that the proof knows of the three methods is that each meets its contract.
--- In a local of a body MIR erases the lifetime of the struct's type, so a machine value that a call returns is shown to have the type at `erased`: what the struct owns does not say the lifetime's name.
+-- `reader::step_from` meets its contract: a walk of its MIR, by hand. A `Reader` that one call returns is held in a
+-- local and passed to the next. All that the proof knows of the three methods is that each meets its contract.
+-- In a local of a body MIR erases the lifetime of the struct's type, so a machine value that a call returns is shown
+-- to have the type at `erased`: what the struct owns does not say the lifetime's name.
 -- Assumes nothing.
 use mathlib.Core.Path.{_≡_, refl, ap, _∙_}
 use Prim.Native.Nat.{ℕ, _<_, _^_}

@@ -8,7 +8,8 @@ use borrow.Author.Needs.{needs}
 use Rattle.format.specs.Cut.{cut}
 use Rattle.format.proofs.Unique.{cut-none}
 use Rattle.stored.specs.Stored.{callRule, isOf}
-use Rattle.stored.proofs.Rule.{standing-call, some-of, none-of}
+use Rattle.fit.proofs.Laws.{some-of, none-of}
+use Rattle.stored.proofs.Rule.{standing-call}
 use Rattle.tally.proofs.Turns.{Counting, counting-begin, counting-yes, counting-no, counting-end}
 use Rattle.tally.proofs.count_calls.Statement.{statement}
 use Rattle.tally.proofs.count_calls.Tie as tie

@@ -10,7 +10,8 @@ use Rattle.format.specs.Cut.{cut}
 use Rattle.format.proofs.Unique.{cut-none}
 use Rattle.stored.specs.Stored.{callRule}
 use Rattle.tally.specs.Calls.{differs}
-use Rattle.stored.proofs.Rule.{standing-call, some-of, none-of}
+use Rattle.fit.proofs.Laws.{some-of, none-of}
+use Rattle.stored.proofs.Rule.{standing-call}
 use Rattle.tally.proofs.Turns.{Counting, counting-begin, counting-yes, counting-no, counting-end}
 use Rattle.tally.proofs.count_different.Statement.{statement}
 use Rattle.tally.proofs.count_different.Tie as tie

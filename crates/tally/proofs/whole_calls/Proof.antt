@@ -10,7 +10,8 @@ use Rattle.format.specs.Cut.{cut, after}
 use Rattle.format.proofs.Unique.{cut-none}
 use Rattle.stored.specs.Stored.{callRule}
 use Rattle.tally.specs.Calls.{calls}
-use Rattle.stored.proofs.Rule.{standing-call, some-of, none-of}
+use Rattle.fit.proofs.Laws.{some-of, none-of}
+use Rattle.stored.proofs.Rule.{standing-call}
 use Rattle.tally.proofs.Turns.{after-turn, length-turn}
 use Rattle.tally.proofs.whole_calls.Statement.{statement}
 use Rattle.tally.proofs.whole_calls.Tie as tie

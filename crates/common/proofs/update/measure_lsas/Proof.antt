@@ -1,5 +1,6 @@
 use Rattle.answer.proofs.Outer.{part-length}
-use Rattle.common.proofs.Objects.{length-lsa-object, some-of, none-of}
+use Rattle.fit.proofs.Laws.{some-of, none-of}
+use Rattle.common.proofs.Objects.{length-lsa-object}
 use Rattle.format.proofs.Loop.{Measuring, spread, measure-begin, measure-turn, measure-finish}
 use Rattle.format.proofs.Rules.{inside}
 use Rattle.format.proofs.Unique.{cut-none, span}

@@ -1,4 +1,4 @@
-use Rattle.common.proofs.Objects.{some-of, none-of}
+use Rattle.fit.proofs.Laws.{some-of, none-of}
 use Rattle.format.proofs.Loop.{Writing, spread, begin, turn, room, finish}
 use Rattle.format.proofs.Rules.{inside}
 use Rattle.format.proofs.Unique.{cut-none}

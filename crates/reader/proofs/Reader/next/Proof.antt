@@ -1,5 +1,9 @@
--- `reader::Reader::next` meets its contract: a walk of its MIR, by hand. The borrow is opened, the struct behind it is taken apart, `step_at` is called on the slice and the number, `place_after` on the step and the number, and the borrow is closed at the struct with the number that this returns. All that the proof knows of the two is that each meets its contract.
--- The struct is Copy: what it owns is had twice, and of one copy what the strip owns goes to `step_at`. A step is plain data: what it owns is made anew from its facts.
+-- `reader::Reader::next` meets its contract: a walk of its MIR, by hand. The borrow is opened, the struct behind it
+-- is taken apart, `step_at` is called on the slice and the number, `place_after` on the step and the number, and the
+-- borrow is closed at the struct with the number that this returns. All that the proof knows of the two is that each
+-- meets its contract.
+-- The struct is Copy: what it owns is had twice, and of one copy what the strip owns goes to `step_at`. A step is
+-- plain data: what it owns is made anew from its facts.
 -- Assumes nothing.
 use mathlib.Core.Path.{_≡_, refl, ap}
 use Prim.Native.Nat.{ℕ, _<_, _^_}
@@ -181,14 +185,16 @@ module _ {M : Type 1} (𝓤 : URA M) (H : Heap 𝓤) (A : Atoms 𝓤) (W : Given
         opens ! tt (B κ′) {h = h} b o (λ vs. spelt ! (B κ′) (Is (B κ′)) (shows 𝓤 H A (B κ′)) (LL.vals D L) (LL.tells D L) fullShare h vs b o $
         use1 W (‵ (fat fullShare (T′.mir erased) b o mach)) (W .laws .raw-at fullShare (T′.mir erased) b o mach) $
         move ! (1 ∷ []) $ peeks ! (B κ′) (Is (B κ′)) (shows 𝓤 H A (B κ′)) h (mach ∷ []) (λ was. move ! (1 ∷ 0 ∷ []) $
-        -- [the struct's cell; what a Reader owns; the open borrow; obs; auth; 'a's token; _5; …; _4; …; _3; …; _2; …; _1; …; room for _0; …]
+        -- [the struct's cell; what a Reader owns; the open borrow; obs; auth; 'a's token; _5; …; _4; …; _3;
+        -- …; _2; …; _1; …; room for _0; …]
         assigns ! (of-opd ! (load ! (from ! (hop ! (look ! 14 refl) (fld ! refl (stop !)))) (look-in ! 0 (sub ! 0 refl (whole !))))) (from ! (stop !)) (init ! 10 refl (tt, LL.lawful D L 𝓤 H A W .typed h _ was .0 .1 .0)) $
         assigns ! (of-opd ! (load ! (from ! (hop ! (look ! 14 refl) (fld ! refl (stop !)))) (look-in ! 0 (sub ! 1 refl (whole !))))) (from ! (stop !)) (init ! 8 refl (tt, record { fits = was .1 .1 .1 .0 .1 })) $
         move ! (1 ∷ 5 ∷ []) $ use2 W (raw (StepAt 𝓤 H A at-mem run .pre to-step) ⊛ ‵ Own) (apart (was .1 .1 .1 .0 .1)) $ split ! $
         calls-at ! fm (StepAt 𝓤 H A at-mem run) known-step to-step (and-then ! (load ! (from ! (stop !)) (look ! 10 refl)) (and-then ! (load ! (from ! (stop !)) (look ! 8 refl)) (no-more !))) (λ u.
         use1 W (later (some (λ (r : Step). ((‵ (flft κ′ q′) ⊛ ‵ ftrue) ⊛ ‵ (S.the-row .own r (u ∷ []))) ⊛ raw (ensured 𝓤 H A step-at.ended (step-at.clauses 𝓤 H A at-mem run) (κ′, tt) (h .strip, (h .place, tt)) tt r)))) (id⊢ 𝓤 _) $ await ! tt $ pick ! (λ r.
         split ! $ move ! (1 ∷ []) $ use1 W (raw (fact 𝓤 (r ≡ found h))) (step-said r) $ heard ! (r ≡ found h) (λ e. split ! $ move ! (1 ∷ []) $
-        -- [the step; 'a's token; what a Reader owns; the struct's cell; the open borrow; obs; auth; _5; …; _4; …; _3; …; room for _2; …; _1; …; room for _0; …]
+        -- [the step; 'a's token; what a Reader owns; the struct's cell; the open borrow; obs; auth; _5; …;
+        -- _4; …; _3; …; room for _2; …; _1; …; room for _0; …]
         peeks ! S.the-row (Is S.the-row) (shows 𝓤 H A S.the-row) r (u ∷ []) (λ is.
         land ! (from ! (stop !)) (init ! 13 refl (EL.lawful S.the-type S′.the-laws 𝓤 H A W tt .typed r _ is .0)) $
         assigns ! (of-opd ! (load ! (from ! (hop ! (look ! 15 refl) (fld ! refl (stop !)))) (look-in ! 3 (sub ! 1 refl (whole !))))) (from ! (stop !)) (init ! 7 refl (tt, record { fits = was .1 .1 .1 .0 .1 })) $
@@ -196,7 +202,8 @@ module _ {M : Type 1} (𝓤 : URA M) (H : Heap 𝓤) (A : Atoms 𝓤) (W : Given
         calls-at ! fm (PlaceAfter 𝓤 H A at-mem run) known-place (to-place r u) (and-then ! (load ! (from ! (stop !)) (look ! 13 refl)) (and-then ! (load ! (from ! (stop !)) (look ! 7 refl)) (no-more !))) (λ w.
         use1 W (later (some (λ (n : ℕ). (‵ ftrue ⊛ ‵ (usize .own n (w ∷ []))) ⊛ raw (ensured 𝓤 H A place-after.ended (place-after.clauses 𝓤 H A at-mem run) tt (r, (h .place, tt)) tt n)))) (id⊢ 𝓤 _) $ await ! tt $ pick ! (λ n.
         split ! $ move ! (1 ∷ []) $ use1 W (raw (fact 𝓤 (n ≡ placeAfter r (h .place)))) (place-said r n) $ heard ! (n ≡ placeAfter r (h .place)) (λ e′. split ! $ drop ! $
-        -- [the number; 'a's token; what a Reader owns; the struct's cell; the open borrow; obs; auth; _5; …; _4; …; _3; …; _2; …; _1; …; room for _0; …]
+        -- [the number; 'a's token; what a Reader owns; the struct's cell; the open borrow; obs; auth; _5; …;
+        -- _4; …; _3; …; _2; …; _1; …; room for _0; …]
         peeks ! usize (Is usize) (shows 𝓤 H A usize) n (w ∷ []) (λ is′.
         land ! (from ! (stop !)) (store ! 9 refl (uint-lawful 𝓤 H A W w64 .typed n _ is′ .0)) $ rewrite ! 9 (λ (y : Val). ‵ (fat fullShare (tyInt w64) l₄ 0 y)) (ap only (is′ .0)) refl $
         assigns ! (of-opd ! (load ! (from ! (stop !)) (look ! 9 refl))) (from ! (hop ! (look ! 15 refl) (fld ! refl (stop !)))) (store-in ! 3 (sub ! 1 refl (whole !)) (tt, record { fits = is′ .1 })) $
