@@ -118,7 +118,8 @@ fn push_links_array(strip: &mut [u8], at: usize, body: &[u8], o: u32) -> Listed
     Listed { at: a, end }
 }
 
-// The links from 4 on, at most as many as the count. The list ends at the first byte of a link that does not fit.
+// The links from 4 on, at most as many as the count. The list ends at the first byte of a link that does not fit. Each link
+// is lent from its place on, with what follows it: the loop then keeps fewer numbers.
 fn push_links(strip: &mut [u8], at: usize, body: &[u8], o: u32, count: u16) -> Listed
     requires { ⌜ at + length (encode (flatMap (link (now body) o) (cut linkRule (now body) count 4))) ≤ length (now strip) ⌝ }
     requires { ⌜ 4 ≤ length (now body) ⌝ }
@@ -128,17 +129,19 @@ fn push_links(strip: &mut [u8], at: usize, body: &[u8], o: u32, count: u16) -> L
     ensures { λ r. ⌜ r .end ≤ length (now (body .entry)) ⌝ }
 {
     let mut a = at;
-    let mut pos: usize = 4;
+    let mut rest = &body[4..];
+    let mut start = o + 4;
     let mut left = count;
     let end = loop {
         if left == 0 {
-            break pos;
+            break body.len() - rest.len();
         }
-        let Fit::Bytes(n) = link_fits(body, pos) else {
-            break pos;
+        let Fit::Bytes(n) = link_fits(rest, 0) else {
+            break body.len() - rest.len();
         };
-        a = push_link(strip, a, body, pos, n, o);
-        pos = pos + n;
+        a = push_link(strip, a, rest, 0, n, start);
+        rest = &rest[n..];
+        start = start + n as u32;
         left = left - 1;
     };
     Listed { at: a, end }

@@ -1,7 +1,9 @@
 use Prim.Native.Nat.{_+_, _-_}
 use native.Mathlib.Omega.{arith}
 use mathlib.Core.Path.{_≡_}
-use Rattle.v2_router.proofs.Laws.{lent-fields}
+use lib.ListN.{take, drop}
+use Rattle.body.proofs.Lent.{of-part}
+use Rattle.v2_router.proofs.Rest.{lent-fields}
 use borrow.Author.Needs.{needs}
 use Rattle.v2_router.proofs.push_link_fields.Statement.{statement}
 use Rattle.v2_router.proofs.push_link_fields.Tie as tie
@@ -34,7 +36,7 @@ returns : tie.Need-returns
 returns c =
     let a = c .before .before .before .before .before .before .before .args in
     let z : a .p + 12 - a .p ≡ 12 = omega arith in
-    rw (z, lent-fields (a .body .now) (a .o) (a .p)) at (c .before .before .push-fields-of-link .ensures)
+    rw (z, lent-fields (take 12 (drop (a .p) (a .body .now))) (a .body .now) (a .o) (a .p) 12 (of-part (a .body .now) (a .p) 12) (omega arith)) at (c .before .before .push-fields-of-link .ensures)
 
 pub push-link-fields-spec : {M : Type 1} → statement M
 push-link-fields-spec =

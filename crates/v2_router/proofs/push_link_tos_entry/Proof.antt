@@ -1,7 +1,10 @@
+use native.Mathlib.Nat.{add-zero}
 use Prim.Native.Nat.{_+_, _-_}
 use native.Mathlib.Omega.{arith}
 use mathlib.Core.Path.{_≡_}
-use Rattle.v2_router.proofs.Laws.{lent-tos}
+use lib.ListN.{take, drop}
+use Rattle.body.proofs.Lent.{of-part}
+use Rattle.v2_router.proofs.Rest.{lent-tos}
 use borrow.Author.Needs.{needs}
 use Rattle.v2_router.proofs.push_link_tos_entry.Statement.{statement}
 use Rattle.v2_router.proofs.push_link_tos_entry.Tie as tie
@@ -34,7 +37,7 @@ returns : tie.Need-returns
 returns c =
     let a = c .before .before .before .before .before .before .before .args in
     let z : a .p + 4 - a .p ≡ 4 = omega arith in
-    rw (z, lent-tos (a .body .now) (a .o) (a .p)) at (c .before .before .push-tos-entry .ensures)
+    rw (z, lent-tos (take 4 (drop (a .p) (a .body .now))) (a .body .now) (a .o) (a .p) 4 (of-part (a .body .now) (a .p) 4) 0 (omega arith), add-zero (a .p)) at (c .before .before .push-tos-entry .ensures)
 
 pub push-link-tos-entry-spec : {M : Type 1} → statement M
 push-link-tos-entry-spec =

@@ -1,27 +1,53 @@
-use Prim.Native.Nat.{_≤_}
+use mathlib.Core.Path.{sym, _∙_}
+use Rattle.body.proofs.Laws.{to-the-end}
+use Prim.Native.Nat.{_+_, _-_}
 use lib.ListN.{length}
 use mathlib.Core.Path.{_≡_, refl}
 use mathlib.Core.Option.{some}
 use borrow.Author.Needs.{needs}
 use native.Mathlib.Omega.{arith}
 use Rattle.format.proofs.Wrote.{kept}
-use Rattle.format.proofs.Loop.{Writing, spread, begin, turn, room, finish}
+use Rattle.format.proofs.Loop.{spread, begin, turn, room, finish}
 use Rattle.format.proofs.Unique.{cut-none}
 use Rattle.format.specs.Cut.{cut, linkRule}
 use Rattle.format.specs.V2.{link}
 use Rattle.fit.proofs.Laws.{some-of, none-of}
 use Rattle.v2_router.proofs.Laws.{link-inside}
+use Rattle.v2_router.proofs.Rest.{Standing, left-length, left-rule, left-link, left-after}
 use Rattle.v2_router.proofs.push_links.Statement.{statement}
 use Rattle.v2_router.proofs.push_links.Tie as tie
 
 abbrev Inv-loop : tie.InvT-loop
-Inv-loop strip₀ at body o count a₀ pos₀ left₀ strip a pos left = Writing linkRule (link body o) body count 4 strip₀ at strip a pos left × (pos ≤ length body)
+Inv-loop strip₀ at body o count a₀ rest₀ start₀ left₀ strip a rest start left = Standing body o count strip₀ at strip a rest start left
 
 abbrev μ-loop : tie.MeasureT-loop
-μ-loop strip₀ at body o count a₀ pos₀ left₀ strip a pos left = left
+μ-loop strip₀ at body o count a₀ rest₀ start₀ left₀ strip a rest start left = left
+
+sub-rest : tie.Need-sub-rest Inv-loop μ-loop
+sub-rest c = search needs
+
+part-rest-start : tie.Need-part-rest-start Inv-loop μ-loop
+part-rest-start c = search needs
+
+part-rest-end : tie.Need-part-rest-end Inv-loop μ-loop
+part-rest-end c = search needs
+
+add-start : tie.Need-add-start Inv-loop μ-loop
+add-start c = search needs
 
 loop-holds : tie.Need-loop-holds Inv-loop μ-loop
-loop-holds c = (begin linkRule _ _ _ 4 _ _ _ _ refl refl, search needs)
+loop-holds c =
+    let s = c .before .before .before in
+    record {
+      pos = 4;
+      within = s .pre .1 .0;
+      is-rest = to-the-end (s .args .body .now) 4;
+      starts = refl;
+      writing = begin linkRule _ _ _ 4 _ _ _ _ refl refl;
+    }
+
+sub-end : tie.Need-sub-end Inv-loop μ-loop
+sub-end c = omega (arith, left-length (c .before .loop .inv))
 
 link-fits-requires : tie.Need-link-fits-requires Inv-loop μ-loop
 link-fits-requires c κs = search needs
@@ -32,17 +58,44 @@ enum-known-n c = search needs
 enum-told : tie.Need-enum-told Inv-loop μ-loop
 enum-told c = search needs
 
-fits : (c : tie.After-push-link-arg Inv-loop μ-loop) → linkRule (c .before .before .before .before .before .before .before .before .before .args .body .now) (c .before .before .before .before .before .before .loop .pos) ≡ some (c .before .before .n .given .0 .0)
-fits c = some-of _ _ (c .before .before .before .before .link-fits .result) (c .before .before .before .before .link-fits .ensures) (c .before .before .n .given .1)
+sub-end-2 : tie.Need-sub-end-2 Inv-loop μ-loop
+sub-end-2 c = omega (arith, left-length (c .before .before .before .before .loop .inv))
+
+-- The link at the front of what is left, and as it stands in the body.
+front : (c : tie.After-push-link-arg Inv-loop μ-loop) → linkRule (c .before .before .before .before .before .before .loop .rest .now) 0 ≡ some (c .before .before .n .given .0 .0)
+front c = some-of _ _ (c .before .before .before .before .link-fits .result) (c .before .before .before .before .link-fits .ensures) (c .before .before .n .given .1)
+
+fits : (c : tie.After-push-link-arg Inv-loop μ-loop) → linkRule (c .before .before .before .before .before .before .before .before .before .before .args .body .now) (c .before .before .before .before .before .before .loop .inv .pos) ≡ some (c .before .before .n .given .0 .0)
+fits c = sym (left-rule (c .before .before .before .before .before .before .loop .inv)) ∙ front c
 
 push-link-requires : tie.Need-push-link-requires Inv-loop μ-loop
 unfolding spread
-push-link-requires c κs = (room linkRule _ _ _ 4 _ _ _ (c .before .before .before .before .before .before .loop .inv .0) (omega arith) (fits c) (c .before .before .before .before .before .before .before .before .before .pre .0), (fits c, omega arith))
+push-link-requires c κs =
+    let g = c .before .before .before .before .before .before .loop .inv in
+    let e = left-link g _ (fits c) in
+    let l = left-length g in
+    (rw e (room linkRule _ _ _ 4 _ _ _ (g .writing) (omega arith) (fits c) (c .before .before .before .before .before .before .before .before .before .before .pre .0)), (front c, omega (arith, g .starts)))
 
-add-pos : tie.Need-add-pos Inv-loop μ-loop
-add-pos c =
-    let h = link-inside _ _ _ (fits (c .before .before .before)) in
-    omega arith
+sub-rest-2 : tie.Need-sub-rest-2 Inv-loop μ-loop
+sub-rest-2 c = let h = link-inside _ 0 _ (front (c .before .before .before)) in omega arith
+
+part-rest-start-2 : tie.Need-part-rest-start-2 Inv-loop μ-loop
+part-rest-start-2 c = let h = link-inside _ 0 _ (front (c .before .before .before)) in omega arith
+
+part-rest-end-2 : tie.Need-part-rest-end-2 Inv-loop μ-loop
+part-rest-end-2 c = let h = link-inside _ 0 _ (front (c .before .before .before)) in omega arith
+
+cast-start : tie.Need-cast-start Inv-loop μ-loop
+cast-start c =
+    let g = c .before .before .before .before .before .before .before .before .before .before .loop .inv in
+    let h = link-inside _ _ _ (fits (c .before .before .before .before)) in
+    omega (arith, g .starts)
+
+add-start-2 : tie.Need-add-start-2 Inv-loop μ-loop
+add-start-2 c =
+    let g = c .before .before .before .before .before .before .before .before .before .before .loop .inv in
+    let h = link-inside _ _ _ (fits (c .before .before .before .before)) in
+    omega (arith, g .starts)
 
 sub-left : tie.Need-sub-left Inv-loop μ-loop
 sub-left c = search needs
@@ -52,29 +105,42 @@ loop-less c = search needs
 
 loop-again : tie.Need-loop-again Inv-loop μ-loop
 loop-again c =
-    let d = c .before .before .before in
-    (turn linkRule _ _ _ 4 _ _ _ (c .before .before .before .before .before .before .before .before .before .loop .inv .0) (omega arith) (fits d) (c .before .before .push-link .ensures), link-inside _ _ _ (fits d) .0)
+    let g = c .before .before .before .before .before .before .before .before .before .before .loop .inv in
+    let d = c .before .before .before .before in
+    let n = c .before .before .before .before .before .before .n .given .0 .0 in
+    record {
+      pos = g .pos + n;
+      within = link-inside _ _ _ (fits d) .0;
+      is-rest = left-after g n;
+      starts = omega (arith, g .starts);
+      writing = turn linkRule _ _ _ 4 _ _ _ (g .writing) (omega arith) (fits d) (rw (left-link g n (fits d)) at (c .before .before .before .push-link .ensures));
+    }
 
 same-length : tie.Need-same-length Inv-loop μ-loop
-same-length c = kept (c .before .loop .inv .0 .wrote)
+same-length c = kept (c .before .loop .inv .writing .wrote)
 
 returns : tie.Need-returns Inv-loop μ-loop
 unfolding spread cut
 returns c =
     let l = c .before .loop in
+    let g = l .inv in
     let z : l .left ≡ 0 = c .if1 .taken in
-    let d = finish linkRule _ _ _ 4 _ _ (l .inv .0) (rw z refl) in
-    (d .0, (d .1, l .inv .1))
+    let d = finish linkRule _ _ _ 4 _ _ (g .writing) (rw z refl) in
+    let e : length (c .before .before .before .before .before .args .body .now) - length (l .rest .now) ≡ g .pos = omega (arith, left-length g) in
+    rw e (d .0, (d .1, g .within))
 
 same-length-2 : tie.Need-same-length-2 Inv-loop μ-loop
-same-length-2 c = kept (c .before .before .before .before .loop .inv .0 .wrote)
+same-length-2 c = kept (c .before .before .before .before .loop .inv .writing .wrote)
 
 returns-2 : tie.Need-returns-2 Inv-loop μ-loop
 unfolding spread
 returns-2 c =
     let l = c .before .before .before .before .loop in
-    let d = finish linkRule _ _ _ 4 _ _ (l .inv .0) (cut-none linkRule _ (l .left) (l .pos) (none-of _ (c .before .before .link-fits .result) (c .before .before .link-fits .ensures) (c .enum-told .given .1))) in
-    (d .0, (d .1, l .inv .1))
+    let g = l .inv in
+    let x = sym (left-rule g) ∙ none-of _ (c .before .before .link-fits .result) (c .before .before .link-fits .ensures) (c .enum-told .given .1) in
+    let d = finish linkRule _ _ _ 4 _ _ (g .writing) (cut-none linkRule _ (l .left) (g .pos) x) in
+    let e : length (c .before .before .before .before .before .before .before .before .args .body .now) - length (l .rest .now) ≡ g .pos = omega (arith, left-length g) in
+    rw e (d .0, (d .1, g .within))
 
 pub push-links-spec : {M : Type 1} → statement M
 push-links-spec =
@@ -82,12 +148,22 @@ push-links-spec =
     (tie.spec
     Inv-loop
     μ-loop
+    sub-rest
+    part-rest-start
+    part-rest-end
+    add-start
     loop-holds
+    sub-end
     link-fits-requires
     enum-known-n
     enum-told
+    sub-end-2
     push-link-requires
-    add-pos
+    sub-rest-2
+    part-rest-start-2
+    part-rest-end-2
+    cast-start
+    add-start-2
     sub-left
     loop-less
     loop-again
