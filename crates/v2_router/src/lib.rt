@@ -168,7 +168,7 @@ fn push_link(strip: &mut [u8], at: usize, body: &[u8], p: usize, n: usize, o: u3
     requires { ⌜ o + length (now body) < 4294967296 ⌝ }
     ensures { λ r. ⌜ Wrote (now (strip .entry)) at (encode (link (now (body .entry)) o (record { at = p; len = n }))) (now (strip .exit)) r ⌝ }
 {
-    let a = begin_container_at(strip, at, LINK, 0, n, o + p as u32);
+    let a = begin_container_at(strip, at, LINK, p, n, o);
     let b = push_link_fields(strip, a, body, p, o);
     let c = push_link_tos_metrics(strip, b, body, p, o);
     end_container(strip, c)
@@ -180,23 +180,11 @@ fn push_link_fields(strip: &mut [u8], at: usize, body: &[u8], p: usize, o: u32) 
     requires { ⌜ o + length (now body) < 4294967296 ⌝ }
     ensures { λ r. ⌜ Wrote (now (strip .entry)) at (encode (linkFields (now (body .entry)) o p)) (now (strip .exit)) r ⌝ }
 {
-    let q = p + LINK_SIZE;
-    push_fields_of_link(strip, at, &body[p..q], o + p as u32)
-}
-
-// The fields of a link that is lent by itself: where they lie in it is then known to the compiler, and their ranges are sums
-// of one number and constants.
-fn push_fields_of_link(strip: &mut [u8], at: usize, link: &[u8], o: u32) -> usize
-    requires { ⌜ at + 62 ≤ length (now strip) ⌝ }
-    requires { ⌜ 12 ≤ length (now link) ⌝ }
-    requires { ⌜ o + length (now link) < 4294967296 ⌝ }
-    ensures { λ r. ⌜ Wrote (now (strip .entry)) at (encode (linkFields (now (link .entry)) o 0)) (now (strip .exit)) r ⌝ }
-{
-    let a = push_ipv4_at(strip, at, LINK_ID, link, 0, o);
-    let b = push_ipv4_at(strip, a, LINK_DATA, link, 4, o);
-    let c = push_u8_at(strip, b, LINK_TYPE, link, 8, o);
-    let d = push_u8_at(strip, c, NUM_TOS, link, 9, o);
-    push_u16_at(strip, d, LINK_METRIC, link, 10, o)
+    let a = push_ipv4_at(strip, at, LINK_ID, body, p, o);
+    let b = push_ipv4_at(strip, a, LINK_DATA, body, p + 4, o);
+    let c = push_u8_at(strip, b, LINK_TYPE, body, p + 8, o);
+    let d = push_u8_at(strip, c, NUM_TOS, body, p + 9, o);
+    push_u16_at(strip, d, LINK_METRIC, body, p + 10, o)
 }
 
 // The TOS metrics of the link at p, if it has any.

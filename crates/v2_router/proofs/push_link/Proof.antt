@@ -1,6 +1,4 @@
-use native.Mathlib.Nat.{add-zero}
 use native.Mathlib.Omega.{arith}
-use Prim.Native.Nat.{_+_}
 use Rattle.format.proofs.Wrote.{then}
 use Rattle.format.proofs.Lists.{contained}
 use Rattle.format.proofs.Unique.{span}
@@ -10,18 +8,6 @@ use Rattle.v2_router.proofs.Laws.{link-inside, length-link}
 use borrow.Author.Needs.{needs}
 use Rattle.v2_router.proofs.push_link.Statement.{statement}
 use Rattle.v2_router.proofs.push_link.Tie as tie
-
-cast-begin-container-at : tie.Need-cast-begin-container-at
-cast-begin-container-at c =
-    let s = c .before .before .before in
-    let h = link-inside (s .args .body .now) (s .args .p) (s .args .n) (s .pre .1 .0) in
-    omega arith
-
-add-begin-container-at : tie.Need-add-begin-container-at
-add-begin-container-at c =
-    let s = c .before .before .before in
-    let h = link-inside (s .args .body .now) (s .args .p) (s .args .n) (s .pre .1 .0) in
-    omega arith
 
 begin-container-at-requires : tie.Need-begin-container-at-requires
 begin-container-at-requires c κs =
@@ -60,16 +46,12 @@ same-length c = search needs
 returns : tie.Need-returns
 unfolding link encode code
 returns c =
-    let s = c .before .before .before .before .before .before .before .before .before .before .before .before .before .before .before .before .before .before in
-    let w = rw (add-zero (s .args .o + s .args .p)) at (c .before .before .before .before .before .before .before .before .before .before .before .before .before .before .begin-container-at .ensures) in
-    contained 96 _ _ _ w (then (c .before .before .before .before .before .before .before .before .before .before .push-link-fields .ensures) (c .before .before .before .before .before .before .push-link-tos-metrics .ensures)) (c .before .before .end-container .ensures)
+    contained 96 _ _ _ (c .before .before .before .before .before .before .before .before .before .before .before .before .before .before .begin-container-at .ensures) (then (c .before .before .before .before .before .before .before .before .before .before .push-link-fields .ensures) (c .before .before .before .before .before .before .push-link-tos-metrics .ensures)) (c .before .before .end-container .ensures)
 
 pub push-link-spec : {M : Type 1} → statement M
 push-link-spec =
     tie.close
     (tie.spec
-    cast-begin-container-at
-    add-begin-container-at
     begin-container-at-requires
     push-link-fields-requires
     push-link-tos-metrics-requires
