@@ -4,6 +4,7 @@ pub mod Wrote
 pub mod Read
 pub mod Unique
 pub mod Rules
+pub mod CutInto
 pub mod Loop
 pub mod Lists
 pub mod Bounds

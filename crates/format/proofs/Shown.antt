@@ -1,18 +1,19 @@
 -- Each list is shown by its strip: the LSAs of an update, the links of a Router-LSA, prefixes; and the headers of a list.
-use Prim.Native.Nat.{ℕ, _+_, _-_, _≤_}
+use Prim.Native.Nat.{ℕ, _+_, _-_, _%_, _≤_, _<_}
 use native.Mathlib.Nat.{zero-add}
 use native.Mathlib.Omega.{arith}
 use mathlib.Core.Path.{_≡_, refl, sym, ap, _∙_}
+use mathlib.Core.Logic.{_↔_}
 use mathlib.Core.Bool.{Bool, true, false, cond}
 use mathlib.Core.List.{List, [], _∷_, _++_, flatMap, append-nil, append-assoc}
 use mathlib.Core.Option.{some}
 use lib.ListN.{length, getD, take, drop}
 use lib.Seq.{sets, sets-eq, take-append-seam}
 use lib.Dec.{eqb}
-use borrow.Author.Tests.{le-ltb, eq-eqb}
+use borrow.Author.Tests.{le-ltb, lt-ltb, eq-eqb}
 use Rattle.format.specs.Bytes.{be16At, be32At}
 use Rattle.format.specs.Strip.{Entry, encode, readAll, container, u8At, u16At, u32At, wide16At}
-use Rattle.format.specs.Strip.Entry.{closes}
+use Rattle.format.specs.Strip.Entry.{closes, bytes}
 use Rattle.format.specs.Prefix.{ip6At}
 use Rattle.format.specs.Cut.{Span, Rule, cut, after, linkRule, prefixRule}
 use Rattle.format.specs.Header.{headerSize, headerEntries2, headerEntries3}
@@ -20,9 +21,10 @@ use Rattle.format.specs.Body.{listing, leftover, bodyEntries, bodyTail}
 use Rattle.format.specs.V2 as v2
 use Rattle.format.specs.V3 as v3
 use Rattle.format.specs.Walks.{lsaEntries, lsaTail, headers}
-use Rattle.format.specs.Shown.{Range, range, ranges, placed, Nested, Shows, LsaShows}
+use Rattle.format.specs.Shown.{Range, range, ranges, placed, Nested, Shows, Listed, LsaShows}
 use Rattle.format.proofs.Read.{read-encode}
-use Rattle.format.proofs.Unique.{is-cut, only}
+use Rattle.format.specs.CutInto.{LinkAt, PrefixAt}
+use Rattle.format.proofs.CutInto.{cut-ends, cut-into, only-cut, link-stands, prefix-stands}
 use Rattle.format.proofs.Nested.{nested-fields, nested-append, nested-leftover, absent, ranges-append}
 use Rattle.format.proofs.NestedLsa.{nested-header2, nested-header3, linkInside, nested-link-inside, prefixInside, nested-prefix-inside}
 
@@ -50,49 +52,65 @@ module _ (o item : ℕ) (inside : Span → List Entry) where
       ∙ rw (ranges-container item item (o + s .at) (o + s .at + s .len) (inside s), eq-eqb item item refl, n s)
       (ap (λ (x : List Range). range (o + s .at) (o + s .at + s .len) ∷ x) (items-placed n ss))
 
+-- What follows an array: nothing where all of the body is taken, else one entry for what is left.
+leftover-none : (i : ℕ) (b : List ℕ) (o p : ℕ) → length b ≤ p → leftover i b o p ≡ []
+unfolding leftover
+leftover-none i b o p h = rw (le-ltb p (length b) h)
+
+leftover-some : (i : ℕ) (b : List ℕ) (o p : ℕ) → p < length b → leftover i b o p ≡ bytes i (o + p) (o + length b) ∷ []
+unfolding leftover
+leftover-some i b o p h = rw (lt-ltb p (length b) h)
+
 -- One theorem for every list: entries before an array of containers, the array, and what is left of the body.
-module _ (r : Rule) (b : List ℕ) (count from o array item unparsed : ℕ) (inside : Span → List Entry) (ok : ℕ → Bool)
+module _ (r : Rule) (b : List ℕ) (standsAt : ℕ → ℕ → Type 0) (says : (p n : ℕ) → (r b p ≡ some n) ↔ standsAt p n) (count first : ℕ) (ends : after first (cut r b count first) ≤ length b)
+    (o array item unparsed : ℕ) (inside : Span → List Entry) (ok : ℕ → Bool)
     (ok-array : ok array ≡ false) (ok-item : ok item ≡ false) (apart : eqb array item ≡ false) (apart′ : eqb item array ≡ false)
     (nested : (s : Span) → Nested ok (inside s)) where
   pub shows : (before : List Entry) → Nested ok before → (es : List Entry) (tail : ℕ)
-      → es ≡ before ++ (listing array (λ (s : Span). container item (o + s .at) (o + s .at + s .len) (inside s)) o from (cut r b count from) ++ leftover unparsed b o (after from (cut r b count from)))
-      → tail ≡ length b - after from (cut r b count from)
-      → Shows r b count from o array item unparsed es tail
+      → es ≡ before ++ (listing array (λ (s : Span). container item (o + s .at) (o + s .at + s .len) (inside s)) o first (cut r b count first) ++ leftover unparsed b o (after first (cut r b count first)))
+      → tail ≡ length b - after first (cut r b count first)
+      → Shows standsAt (length b) count first o array item unparsed (cut r b count first) (after first (cut r b count first)) tail before inside es
   unfolding listing
   shows before n es tail e t =
-      let ss = cut r b count from in
+      let ss = cut r b count first in
       let box : Span → List Entry = λ (s : Span). container item (o + s .at) (o + s .at + s .len) (inside s) in
-      let rest = leftover unparsed b o (after from ss) in
-      let arr = container array (o + from) (o + after from ss) (flatMap box ss) in
+      let left = leftover unparsed b o (after first ss) in
+      let arr = container array (o + first) (o + after first ss) (flatMap box ss) in
       record {
-        cut-is = is-cut r b count from;
-        cut-only = only r b count from;
-        items = ap (ranges item) e ∙ (ranges-append item before (arr ++ rest) ∙ (rw (absent item ok-item n)
-            (ranges-append item arr rest ∙ (rw (absent item ok-item (nested-leftover ok unparsed b o (after from ss)), append-nil, ranges-container item array (o + from) (o + after from ss) (flatMap box ss), apart′)
+        is-cut = cut-into r b standsAt says count first tail ends t;
+        only-cut = λ qs x u c. let z = only-cut r b standsAt says count first qs x u c in (z .0, z .1, z .2 ∙ sym t);
+        items = ap (ranges item) e ∙ (ranges-append item before (arr ++ left) ∙ (rw (absent item ok-item n)
+            (ranges-append item arr left ∙ (rw (absent item ok-item (nested-leftover ok unparsed b o (after first ss)), append-nil, ranges-container item array (o + first) (o + after first ss) (flatMap box ss), apart′)
             (items-placed o item inside (λ s. absent item ok-item (nested s)) ss)))));
-        arrays = ap (ranges array) e ∙ (ranges-append array before (arr ++ rest) ∙ (rw (absent array ok-array n)
-            (ranges-append array arr rest ∙ (rw (absent array ok-array (nested-leftover ok unparsed b o (after from ss)), append-nil, ranges-container array array (o + from) (o + after from ss) (flatMap box ss), eq-eqb array array refl)
-            (ap (λ (x : List Range). range (o + from) (o + after from ss) ∷ x) (items-absent o item inside array apart (λ s. absent array ok-array (nested s)) ss))))));
-        before = before;
-        inside = flatMap box ss;
+        arrays = ap (ranges array) e ∙ (ranges-append array before (arr ++ left) ∙ (rw (absent array ok-array n)
+            (ranges-append array arr left ∙ (rw (absent array ok-array (nested-leftover ok unparsed b o (after first ss)), append-nil, ranges-container array array (o + first) (o + after first ss) (flatMap box ss), eq-eqb array array refl)
+            (ap (λ (x : List Range). range (o + first) (o + after first ss) ∷ x) (items-absent o item inside array apart (λ s. absent array ok-array (nested s)) ss))))));
+        rest = left;
         shape = e;
-        tail-is = t;
+        none-before = absent item ok-item n;
+        none-held = λ s. absent item ok-item (nested s);
+        rest-none = λ z. leftover-none unparsed b o (after first ss) (omega arith);
+        rest-some = λ z. leftover-some unparsed b o (after first ss) (omega arith);
       }
+
+listed : {standsAt : ℕ → ℕ → Type 0} {size count first o array item unparsed end tail : ℕ} {spans : List Span} {before es : List Entry} {held : Span → List Entry}
+    → Shows standsAt size count first o array item unparsed spans end tail before held es → Listed standsAt size count first o array item unparsed es tail
+listed {end = end} {spans = spans} {before = before} {held = held} h = record { spans = spans; end = end; before = before; held = held; shows = h }
 
 -- The links of a Router-LSA of version 2.
 links-shown : (d : List ℕ) (o : ℕ) → getD d 3 0 ≡ 1 → 4 ≤ length (drop headerSize d)
-    → Shows linkRule (drop headerSize d) (be16At (drop headerSize d) 2) 4 (o + headerSize) 16 96 25 (v2.lsaEntries2 d o) (v2.lsaTail2 d)
+    → Listed (LinkAt (drop headerSize d)) (length (drop headerSize d)) (be16At (drop headerSize d) 2) 4 (o + headerSize) 16 96 25 (v2.lsaEntries2 d o) (v2.lsaTail2 d)
 unfolding v2.lsaEntries2 v2.lsaTail2 v2.body2 v2.routerLsa2 v2.link bodyEntries bodyTail
 links-shown d o h l =
     let b = drop headerSize d in
     let q = o + headerSize in
     let m = le-ltb (length b) 4 l in
-    shows linkRule b (be16At b 2) 4 q 16 96 25 (linkInside b q) tos refl refl refl refl (nested-link-inside tos refl refl b q)
+    listed (shows linkRule b (LinkAt b) (link-stands b) (be16At b 2) 4 (cut-ends linkRule b (λ p n e. link-stands b p n .0 e .inside) (be16At b 2) 4 l) q 16 96 25 (linkInside b q) tos refl refl refl refl (nested-link-inside tos refl refl b q)
     (headerEntries2 d o ++ (v2.routerFlags b q ++ (u16At 15 b q 2 ∷ [])))
     (nested-append tos (nested-header2 tos d o) (nested-fields tos (v2.routerFlags b q ++ (u16At 15 b q 2 ∷ [])) refl))
     _ _
     (rw (h, m) (sym (append-assoc (headerEntries2 d o) _ _)))
-    (rw (h, m) refl)
+    (rw (h, m) refl))
   where
     tos : ℕ → Bool
     tos i = cond (eqb i 69) true (eqb i 97)
@@ -102,34 +120,34 @@ no-container : ℕ → Bool
 no-container i = false
 
 link-prefixes-shown : (d : List ℕ) (o : ℕ) → v3.functionCode d ≡ 8 → 24 ≤ length (drop headerSize d)
-    → Shows prefixRule (drop headerSize d) (be32At (drop headerSize d) 20) 24 (o + headerSize) 29 97 33 (v3.lsaEntries3 d o) (v3.lsaTail3 d)
+    → Listed (PrefixAt (drop headerSize d)) (length (drop headerSize d)) (be32At (drop headerSize d) 20) 24 (o + headerSize) 29 97 33 (v3.lsaEntries3 d o) (v3.lsaTail3 d)
 unfolding v3.lsaEntries3 v3.lsaTail3 v3.body3 v3.linkLsa v3.prefix bodyEntries bodyTail no-container
 link-prefixes-shown d o h l =
     let b = drop headerSize d in
     let q = o + headerSize in
     let m = le-ltb (length b) 24 l in
     let fixed = u8At 26 b q 0 ∷ v3.options b q ∷ ip6At 27 b q 4 16 ∷ u32At 28 b q 20 ∷ [] in
-    shows prefixRule b (be32At b 20) 24 q 29 97 33 (prefixInside false b q) no-container refl refl refl refl (nested-prefix-inside no-container false b q)
+    listed (shows prefixRule b (PrefixAt b) (prefix-stands b) (be32At b 20) 24 (cut-ends prefixRule b (λ p n e. prefix-stands b p n .0 e .inside) (be32At b 20) 24 l) q 29 97 33 (prefixInside false b q) no-container refl refl refl refl (nested-prefix-inside no-container false b q)
     (headerEntries3 d o ++ fixed)
     (nested-append no-container (nested-header3 no-container d o) (nested-fields no-container fixed refl))
     _ _
     (rw (h, m) (sym (append-assoc (headerEntries3 d o) fixed _)))
-    (rw (h, m) refl)
+    (rw (h, m) refl))
 
 area-prefixes-shown : (d : List ℕ) (o : ℕ) → v3.functionCode d ≡ 9 → 12 ≤ length (drop headerSize d)
-    → Shows prefixRule (drop headerSize d) (be16At (drop headerSize d) 0) 12 (o + headerSize) 29 97 33 (v3.lsaEntries3 d o) (v3.lsaTail3 d)
+    → Listed (PrefixAt (drop headerSize d)) (length (drop headerSize d)) (be16At (drop headerSize d) 0) 12 (o + headerSize) 29 97 33 (v3.lsaEntries3 d o) (v3.lsaTail3 d)
 unfolding v3.lsaEntries3 v3.lsaTail3 v3.body3 v3.intraAreaPrefixLsa v3.prefix bodyEntries bodyTail no-container
 area-prefixes-shown d o h l =
     let b = drop headerSize d in
     let q = o + headerSize in
     let m = le-ltb (length b) 12 l in
     let fixed = wide16At 28 b q 0 ∷ v3.references b q in
-    shows prefixRule b (be16At b 0) 12 q 29 97 33 (prefixInside true b q) no-container refl refl refl refl (nested-prefix-inside no-container true b q)
+    listed (shows prefixRule b (PrefixAt b) (prefix-stands b) (be16At b 0) 12 (cut-ends prefixRule b (λ p n e. prefix-stands b p n .0 e .inside) (be16At b 0) 12 l) q 29 97 33 (prefixInside true b q) no-container refl refl refl refl (nested-prefix-inside no-container true b q)
     (headerEntries3 d o ++ fixed)
     (nested-append no-container (nested-header3 no-container d o) (nested-fields no-container fixed refl))
     _ _
     (rw (h, m) (sym (append-assoc (headerEntries3 d o) fixed _)))
-    (rw (h, m) refl)
+    (rw (h, m) refl))
 
 -- The lists inside any LSA.
 pub lsa-shows : (v : ℕ) (d : List ℕ) (o : ℕ) → LsaShows v d o (lsaEntries v d o) (lsaTail v d)

@@ -6,26 +6,31 @@ use mathlib.Core.Bool.{Bool, true, false, cond}
 use mathlib.Core.List.{List, []}
 use lib.ListN.{length, take, length-map, length-append}
 use lib.Seq.{sets, length-take-le, length-sets}
-use lib.Dec.{eqb, ltb}
-use borrow.Author.Tests.{ltb-false, eqb-false}
+use lib.Dec.{eqb, leb, ltb}
+use borrow.Author.Tests.{ltb-true, ltb-false, le-leb, eqb-true, eqb-false}
 use Rattle.format.specs.Bytes.{part}
-use Rattle.format.specs.Strip.{Entry, code, encode}
+use Rattle.format.specs.Strip.{Entry, code, encode, container}
 use Rattle.format.specs.Cut.{Span, cut, after, recordRule, fixedRule}
+use Rattle.format.specs.CutInto.{HeaderAt, RecordAt}
 use Rattle.format.specs.Header.{headerSize, headerEntries2, headerEntries3}
 use Rattle.format.specs.Body.{listing, leftover, whole}
 use Rattle.format.specs.V2.{lsaEntries2}
 use Rattle.format.specs.V3.{lsaEntries3}
 use Rattle.format.specs.Walks.{answer, answerOf, stripOf, unless, refusal, headersOf, updateOf, lsaOf, lsaEntries, lsaTail, headerEntries, lsaObject, headerObject, outer, unparsedId, lsas, headers}
 use Rattle.format.specs.Walks.Outcome.{refused, accepted}
-use Rattle.format.specs.Shown.{UpdateShows, OneShows, HeadersShow}
-use Rattle.format.specs.Shown.Nested.{none}
+use Rattle.format.specs.Shown.{own, unparsedOf, Nested, UpdateShows, OneShows, HeadersShow}
+use Rattle.format.specs.Shown.Nested.{none, field, group}
+use Rattle.format.proofs.Nested.{nested-append, nested-listing, nested-container, nested-leftover}
 use Rattle.format.proofs.NestedLsa.{below, nested-lsa, nested-header}
 use Rattle.format.proofs.Shown.{shows, lsa-shows, read-strip}
-use Rattle.format.proofs.Lists.{length-listing}
+use Rattle.format.proofs.CutInto.{cut-ends, record-stands, header-stands}
+use Rattle.format.proofs.Refusals.{limits}
+use Rattle.format.proofs.Lists.{length-listing, whole-after}
 use Rattle.format.proofs.Wrote.{encode-append}
 
 -- An answer of 0 is that of an accepted outcome whose strip has room.
 record Taken (n : ℕ) (es : List Entry) (r t : ℕ) (before : List ℕ) : Type 0 where
+  not-refused : n ≡ 0
   fits : length (encode es) ≤ length before
   answered : answerOf (unless n (accepted es r t)) (length before) ≡ answer 0 (length (encode es)) r t
   written : stripOf (unless n (accepted es r t)) before ≡ sets before 0 (encode es)
@@ -36,7 +41,7 @@ taken n es r t before h = go (eqb n 0) refl (ltb (length before) (length (encode
   where
     go : (s : Bool) → eqb n 0 ≡ s → (f : Bool) → ltb (length before) (length (encode es)) ≡ f
         → answerOf (cond s (accepted es r t) (refused n)) (length before) .number ≡ 0 → Taken n es r t before
-    go true p false q h = record { fits = ltb-false _ _ q; answered = rw (p, q); written = rw (p, q) }
+    go true p false q h = record { not-refused = eqb-true n 0 p; fits = ltb-false _ _ q; answered = rw (p, q); written = rw (p, q) }
     go true p true q h = let z = rw q at h in absurd (omega arith)
     go false p f q h = absurd (eqb-false n 0 p h)
 
@@ -59,7 +64,26 @@ lsa-longer v d o = go (eqb v 2)
     go true = omega arith
     go false = omega arith
 
--- Demand 3 for updates: every accepted update shows the cut of its records, and each record the lists inside it.
+-- Entries that are well nested stay so where more ids pass.
+nested-wider : {ok more : ℕ → Bool} {es : List Entry} → ((i : ℕ) → ok i ≡ true → more i ≡ true) → Nested ok es → Nested more es
+nested-wider h none = none
+nested-wider h (field e n) = field e (nested-wider h n)
+nested-wider h (group i s e g m n) = group i s e (h i g) (nested-wider h m) (nested-wider h n)
+
+-- An outer array of objects, and the tail after it.
+known : ℕ → Bool
+known i = leb i 114
+
+nested-outer : (v : ℕ) (d : List ℕ) (o item p : ℕ) (ss : List Span) → leb item 114 ≡ true → (held : Span → List Entry) → ((s : Span) → Nested below (held s))
+    → Nested (λ i. leb i 114) (outer v (λ (s : Span). container item (o + s .at) (o + s .at + s .len) (held s)) d o p ss)
+unfolding outer known
+nested-outer v d o item p ss h held n =
+    nested-append known
+    (nested-listing known 114 (λ (s : Span). container item (o + s .at) (o + s .at + s .len) (held s)) o p ss refl
+    (λ s. nested-container known item _ _ h (nested-wider (λ i l. le-leb i 114 (let z = ltb-true i 112 l in omega arith)) (n s))))
+    (nested-leftover known (unparsedId v) d o (after p ss))
+
+-- Every accepted update shows the cut of its records, and each record the lists inside it.
 pub update-shows : (v : ℕ) (d : List ℕ) (count o : ℕ) (before : List ℕ) → answerOf (updateOf v d count o) (length before) .number ≡ 0
     → UpdateShows v d count o (take (answerOf (updateOf v d count o) (length before) .size) (stripOf (updateOf v d count o) before))
     (answerOf (updateOf v d count o) (length before) .records) (answerOf (updateOf v d count o) (length before) .tail)
@@ -67,21 +91,24 @@ unfolding updateOf outer lsaObject listing
 update-shows v d count o before h =
     let es = outer v (lsaObject v d o) d o 4 (lsas d count) in
     let k = taken (refusal v d o 4) es (length (lsas d count)) (length d - after 4 (lsas d count)) before h in
-    let sh = shows recordRule d count 4 o 114 113 (unparsedId v) (λ (s : Span). lsaEntries v (part d (s .at) (s .len)) (o + s .at)) below refl refl refl refl
-    (λ s. nested-lsa v (part d (s .at) (s .len)) (o + s .at)) [] none es (length d - after 4 (lsas d count)) refl refl in
+    let held : Span → List Entry = λ (s : Span). lsaEntries v (own d s) (o + s .at) in
+    let nested : (s : Span) → Nested below (held s) = λ s. nested-lsa v (own d s) (o + s .at) in
+    let ends = cut-ends recordRule d (λ p n e. record-stands d p n .0 e .inside) count 4 (limits v d o 4 (k .not-refused) .enough) in
+    let sh = shows recordRule d (RecordAt d) (record-stands d) count 4 ends o 114 113 (unparsedOf v) held below refl refl refl refl nested [] none es (length d - after 4 (lsas d count)) refl refl in
     rw (k .answered, k .written) (record {
       entries = es;
+      spans = lsas d count;
+      end = after 4 (lsas d count);
       read = read-strip es before (k .fits);
+      nested = nested-outer v d o 113 4 (lsas d count) refl held nested;
       shows = sh;
-      objects = refl;
-      nested = λ s. nested-lsa v (part d (s .at) (s .len)) (o + s .at);
-      lists = λ s. lsa-shows v (part d (s .at) (s .len)) (o + s .at);
+      lists = λ s. (lsaTail v (own d s), lsa-shows v (own d s) (o + s .at));
       counted = refl;
       objects-counted = ap length (sh .items) ∙ length-map (lsas d count) _;
       longer = rw (strip-length k) (outer-longer v (lsaObject v d o) d o 4 (lsas d count));
     })
 
--- Demand 3 for a single LSA.
+-- A single LSA.
 pub one-shows : (v : ℕ) (d : List ℕ) (o : ℕ) (before : List ℕ) → answerOf (lsaOf v d o) (length before) .number ≡ 0
     → OneShows v d o (take (answerOf (lsaOf v d o) (length before) .size) (stripOf (lsaOf v d o) before))
     (answerOf (lsaOf v d o) (length before) .records) (answerOf (lsaOf v d o) (length before) .tail)
@@ -92,12 +119,14 @@ one-shows v d o before h =
     rw (k .answered, k .written) (record {
       entries = es;
       read = read-strip es before (k .fits);
+      nested = nested-lsa v d o;
+      holds = refl;
       lists = lsa-shows v d o;
       counted = refl;
       longer = rw (strip-length k) (lsa-longer v d o);
     })
 
--- The same of a header list, whose headers are all that fit.
+-- A header list, whose headers are all that fit.
 pub headers-show : (v : ℕ) (d : List ℕ) (o : ℕ) (before : List ℕ) → answerOf (headersOf v d o) (length before) .number ≡ 0
     → HeadersShow v d o (take (answerOf (headersOf v d o) (length before) .size) (stripOf (headersOf v d o) before))
     (answerOf (headersOf v d o) (length before) .records) (answerOf (headersOf v d o) (length before) .tail)
@@ -105,12 +134,21 @@ unfolding headersOf outer headerObject listing whole
 headers-show v d o before h =
     let es = outer v (headerObject v d o) d o 0 (headers d) in
     let k = taken (refusal v d o 0) es (length (headers d)) (length d - after 0 (headers d)) before h in
-    let sh = shows (fixedRule headerSize) d ((length d - 0) / headerSize) 0 o 114 112 (unparsedId v) (λ (s : Span). headerEntries v (part d (s .at) (s .len)) (o + s .at)) below refl refl refl refl
-    (λ s. nested-header v (part d (s .at) (s .len)) (o + s .at)) [] none es (length d - after 0 (headers d)) refl refl in
+    let held : Span → List Entry = λ (s : Span). headerEntries v (own d s) (o + s .at) in
+    let nested : (s : Span) → Nested below (held s) = λ s. nested-header v (own d s) (o + s .at) in
+    let q : length d - 0 ≡ length d = omega arith in
+    let ends = cut-ends (fixedRule headerSize) d (λ p n e. header-stands d p n .0 e .inside) (length d / 20) 0 (omega arith) in
+    let a = whole-after headerSize d 0 (omega arith) in
+    let sh = shows (fixedRule headerSize) d (HeaderAt d) (header-stands d) (length d / 20) 0 ends o 114 112 (unparsedOf v) held below refl refl refl refl nested [] none es (length d - after 0 (headers d)) (rw q) (rw q) in
     rw (k .answered, k .written) (record {
       entries = es;
+      spans = cut (fixedRule headerSize) d (length d / 20) 0;
+      end = after 0 (cut (fixedRule headerSize) d (length d / 20) 0);
       read = read-strip es before (k .fits);
+      nested = nested-outer v d o 112 0 (headers d) refl held nested;
       shows = sh;
-      objects-counted = ap length (sh .items) ∙ length-map (headers d) _;
+      all-whole = omega arith;
+      counted = rw q refl;
+      objects-counted = ap length (sh .items) ∙ (length-map (cut (fixedRule headerSize) d (length d / 20) 0) _ ∙ rw q refl);
       longer = rw (strip-length k) (outer-longer v (headerObject v d o) d o 0 (headers d));
     })

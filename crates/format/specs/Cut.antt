@@ -9,6 +9,7 @@ use lib.ListN.{length, getD}
 use lib.Dec.{leb}
 use Rattle.format.specs.Bytes.{be16At}
 use Rattle.format.specs.Prefix.{octets}
+use Rattle.format.specs.Header.{headerSize}
 
 -- Where an entry lies.
 pub record Span : Type 0 where
@@ -50,7 +51,7 @@ standing least declared b p = cond (leb (p + least) (length b)) (elim (declared 
 
 -- RFC 2328 A.4.1 and RFC 5340 A.4.2: the length of an LSA is the 16 bits at 18 of its header.
 abbrev pub recordRule : Rule
-recordRule = standing 20 (λ b p. some (be16At b (p + 18)))
+recordRule = standing headerSize (λ b p. some (be16At b (p + 18)))
 
 -- RFC 2328 A.4.2: a link has 12 bytes, and 4 for each TOS metric, whose number is its byte 9.
 abbrev pub linkRule : Rule

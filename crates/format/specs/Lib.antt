@@ -4,6 +4,7 @@ pub mod Strip
 pub mod Wrote
 pub mod Prefix
 pub mod Cut
+pub mod CutInto
 pub mod Header
 pub mod Body
 pub mod V2

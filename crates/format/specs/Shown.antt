@@ -1,19 +1,19 @@
 -- How a strip shows the cut of a list: one array, with one container for each span, and the tail after it.
-use Prim.Native.Nat.{ℕ, _+_, _-_, _/_, _≤_, _<_}
+use Prim.Native.Nat.{ℕ, _+_, _/_, _%_, _≤_, _<_}
 use mathlib.Core.Path.{_≡_}
 use mathlib.Core.Bool.{Bool, true, false, cond}
 use mathlib.Core.List.{List, [], _∷_, _++_, map, flatMap}
 use mathlib.Core.Option.{some}
-use lib.ListN.{length, getD, drop}
-use lib.Dec.{ltb, eqb}
-use Rattle.format.specs.Bytes.{be16At, be32At, part}
+use lib.ListN.{length, getD, take, drop}
+use lib.Dec.{leb, ltb, eqb}
+use Rattle.format.specs.Bytes.{be16At, be32At}
 use Rattle.format.specs.Strip.{Entry, container, readAll}
 use Rattle.format.specs.Strip.Entry.{opens, closes, u8, u16, u32, ip4, ip6, bytes}
-use Rattle.format.specs.Cut.{Span, Rule, cut, after, IsCut, recordRule, linkRule, prefixRule, fixedRule}
-use Rattle.format.specs.Header.{headerSize}
-use Rattle.format.specs.Body.{leftover}
-use Rattle.format.specs.V3.{functionCode}
-use Rattle.format.specs.Walks.{lsaEntries, lsaTail, lsaObject, lsas, unparsedId}
+use Rattle.format.specs.Cut.{Span}
+use Rattle.format.specs.CutInto.{CutInto, HeaderAt, RecordAt, LinkAt, PrefixAt}
+use Rattle.format.specs.Header.{headerEntries2, headerEntries3}
+use Rattle.format.specs.V2.{lsaEntries2}
+use Rattle.format.specs.V3.{lsaEntries3}
 
 -- Where a container begins and ends.
 pub record Range : Type 0 where
@@ -58,54 +58,84 @@ pub data Nested (ok : ℕ → Bool) : List Entry → Type 0 where
   field : {x : Entry} {es : List Entry} → isField x ≡ true → Nested ok es → Nested ok (x ∷ es)
   group : {inside es : List Entry} (i s e : ℕ) → ok i ≡ true → Nested ok inside → Nested ok es → Nested ok (opens i s e ∷ (inside ++ (closes ∷ es)))
 
--- The entries es show the cut of b from `from` under a count: the cut is a cut, and the only one; the containers with the
--- items' id are its spans, in order; the array with its id lies from the first place to the cut's end; the entries end
--- with that array and, where the tail is not empty, one unparsed entry from there to the body's end; the tail is its length.
-pub record Shows (r : Rule) (b : List ℕ) (count from o array item unparsed : ℕ) (es : List Entry) (tail : ℕ) : Type 0 where
-  pub cut-is : IsCut r b count from (cut r b count from)
-  pub cut-only : (ss : List Span) → IsCut r b count from ss → ss ≡ cut r b count from
-  pub items : ranges item es ≡ placed o (cut r b count from)
-  pub arrays : ranges array es ≡ range (o + from) (o + after from (cut r b count from)) ∷ []
+-- The entries es show the cut of a list, in a body of `size` bytes whose first byte is at the place o. The spans, which end
+-- at `end`, and the tail are its cut, and the only one. The containers with the items' id are the spans, in order; the one
+-- with the array's id lies from the list's first place to where the tail begins. Before the array no item stands; in it
+-- are the spans' containers, with what they hold, and nothing else; after it comes nothing, or, where the tail is not
+-- empty, one unparsed entry to the body's end.
+pub record Shows (standsAt : ℕ → ℕ → Type 0) (size count first o array item unparsed : ℕ) (spans : List Span) (end tail : ℕ) (before : List Entry) (held : Span → List Entry) (es : List Entry) : Type 0 where
+  pub is-cut : CutInto standsAt size first count spans end tail
+  pub only-cut : (ss : List Span) (e t : ℕ) → CutInto standsAt size first count ss e t → (ss ≡ spans) × (e ≡ end) × (t ≡ tail)
+  pub items : ranges item es ≡ placed o spans
+  pub arrays : ranges array es ≡ range (o + first) (o + end) ∷ []
+  pub none-before : ranges item before ≡ []
+  pub none-held : (s : Span) → ranges item (held s) ≡ []
+  pub rest : List Entry
+  pub shape : es ≡ before ++ (container array (o + first) (o + end) (flatMap (λ (s : Span). container item (o + s .at) (o + s .at + s .len) (held s)) spans) ++ rest)
+  pub rest-none : tail ≡ 0 → rest ≡ []
+  pub rest-some : 0 < tail → rest ≡ bytes unparsed (o + end) (o + size) ∷ []
+
+-- The same of a list inside other entries.
+pub record Listed (standsAt : ℕ → ℕ → Type 0) (size count first o array item unparsed : ℕ) (es : List Entry) (tail : ℕ) : Type 0 where
+  pub spans : List Span
+  pub end : ℕ
   pub before : List Entry
-  pub inside : List Entry
-  pub shape : es ≡ before ++ (container array (o + from) (o + after from (cut r b count from)) inside ++ leftover unparsed b o (after from (cut r b count from)))
-  pub tail-is : tail ≡ length b - after from (cut r b count from)
+  pub held : Span → List Entry
+  pub shows : Shows standsAt size count first o array item unparsed spans end tail before held es
 
 -- The lists inside an LSA, as its entries show them: links of a version 2 Router-LSA, prefixes of a version 3 Link-LSA and
--- Intra-Area-Prefix-LSA. A body that ends before the list's first place has no list.
+-- Intra-Area-Prefix-LSA, whose function is the low 13 bits of the LS type. A body that ends before the list's first place
+-- has no list.
 pub record LsaShows (v : ℕ) (d : List ℕ) (o : ℕ) (es : List Entry) (tail : ℕ) : Type 0 where
-  pub links : v ≡ 2 → getD d 3 0 ≡ 1 → 4 ≤ length (drop headerSize d)
-      → Shows linkRule (drop headerSize d) (be16At (drop headerSize d) 2) 4 (o + headerSize) 16 96 25 es tail
-  pub link-prefixes : v ≡ 3 → functionCode d ≡ 8 → 24 ≤ length (drop headerSize d)
-      → Shows prefixRule (drop headerSize d) (be32At (drop headerSize d) 20) 24 (o + headerSize) 29 97 33 es tail
-  pub area-prefixes : v ≡ 3 → functionCode d ≡ 9 → 12 ≤ length (drop headerSize d)
-      → Shows prefixRule (drop headerSize d) (be16At (drop headerSize d) 0) 12 (o + headerSize) 29 97 33 es tail
+  pub links : v ≡ 2 → getD d 3 0 ≡ 1 → 4 ≤ length (drop 20 d)
+      → Listed (LinkAt (drop 20 d)) (length (drop 20 d)) (be16At (drop 20 d) 2) 4 (o + 20) 16 96 25 es tail
+  pub link-prefixes : v ≡ 3 → be16At d 2 % 8192 ≡ 8 → 24 ≤ length (drop 20 d)
+      → Listed (PrefixAt (drop 20 d)) (length (drop 20 d)) (be32At (drop 20 d) 20) 24 (o + 20) 29 97 33 es tail
+  pub area-prefixes : v ≡ 3 → be16At d 2 % 8192 ≡ 9 → 12 ≤ length (drop 20 d)
+      → Listed (PrefixAt (drop 20 d)) (length (drop 20 d)) (be16At (drop 20 d) 0) 12 (o + 20) 29 97 33 es tail
 
--- An accepted update: its strip reads as entries that show the cut of its records; each record's object holds the entries
--- of that LSA, well nested, and they show the lists inside it; and the answer's records are the objects' number.
+-- The bytes of a span, and the id of unparsed bytes.
+abbrev pub own : List ℕ → Span → List ℕ
+own d s = take (s .len) (drop (s .at) d)
+
+abbrev pub unparsedOf : ℕ → ℕ
+unparsedOf v = cond (eqb v 2) 25 33
+
+-- An accepted update: its strip reads as entries, well nested, that show the cut of its records; each record's object
+-- holds the entries of that LSA's own bytes at its own place, which show the lists inside it; and the answer's records are
+-- the spans' number, and the objects'.
 pub record UpdateShows (v : ℕ) (d : List ℕ) (count o : ℕ) (strip : List ℕ) (records tail : ℕ) : Type 0 where
   pub entries : List Entry
+  pub spans : List Span
+  pub end : ℕ
   pub read : readAll strip ≡ some entries
-  pub shows : Shows recordRule d count 4 o 114 113 (unparsedId v) entries tail
-  pub objects : entries ≡ container 114 (o + 4) (o + after 4 (lsas d count)) (flatMap (lsaObject v d o) (lsas d count)) ++ leftover (unparsedId v) d o (after 4 (lsas d count))
-  pub nested : (s : Span) → Nested (λ i. ltb i 112) (lsaEntries v (part d (s .at) (s .len)) (o + s .at))
-  pub lists : (s : Span) → LsaShows v (part d (s .at) (s .len)) (o + s .at) (lsaEntries v (part d (s .at) (s .len)) (o + s .at)) (lsaTail v (part d (s .at) (s .len)))
-  pub counted : records ≡ length (cut recordRule d count 4)
+  pub nested : Nested (λ i. leb i 114) entries
+  pub shows : Shows (RecordAt d) (length d) count 4 o 114 113 (unparsedOf v) spans end tail [] (λ s. cond (eqb v 2) (lsaEntries2 (own d s) (o + s .at)) (lsaEntries3 (own d s) (o + s .at))) entries
+  pub lists : (s : Span) → (t : ℕ) × LsaShows v (own d s) (o + s .at) (cond (eqb v 2) (lsaEntries2 (own d s) (o + s .at)) (lsaEntries3 (own d s) (o + s .at))) t
+  pub counted : records ≡ length spans
   pub objects-counted : length (ranges 113 entries) ≡ records
   pub longer : 0 < length strip
 
--- An accepted single LSA: its strip reads as entries that show the lists inside it; it is one record.
+-- An accepted single LSA: its strip reads as its entries, well nested, that show the lists inside it; it is one record.
 pub record OneShows (v : ℕ) (d : List ℕ) (o : ℕ) (strip : List ℕ) (records tail : ℕ) : Type 0 where
   pub entries : List Entry
   pub read : readAll strip ≡ some entries
+  pub nested : Nested (λ i. ltb i 112) entries
+  pub holds : entries ≡ cond (eqb v 2) (lsaEntries2 d o) (lsaEntries3 d o)
   pub lists : LsaShows v d o entries tail
   pub counted : records ≡ 1
   pub longer : 0 < length strip
 
--- An accepted header list: its strip reads as entries that show the whole headers; the answer's records are their number.
+-- An accepted header list: its strip reads as entries, well nested, that show the whole headers, all that there are; each
+-- object holds the entries of its own header at its own place; the answer's records are their number.
 pub record HeadersShow (v : ℕ) (d : List ℕ) (o : ℕ) (strip : List ℕ) (records tail : ℕ) : Type 0 where
   pub entries : List Entry
+  pub spans : List Span
+  pub end : ℕ
   pub read : readAll strip ≡ some entries
-  pub shows : Shows (fixedRule headerSize) d ((length d - 0) / headerSize) 0 o 114 112 (unparsedId v) entries tail
+  pub nested : Nested (λ i. leb i 114) entries
+  pub shows : Shows (HeaderAt d) (length d) (length d / 20) 0 o 114 112 (unparsedOf v) spans end tail [] (λ s. cond (eqb v 2) (headerEntries2 (own d s) (o + s .at)) (headerEntries3 (own d s) (o + s .at))) entries
+  pub all-whole : tail < 20
+  pub counted : records ≡ length spans
   pub objects-counted : length (ranges 112 entries) ≡ records
   pub longer : 0 < length strip
