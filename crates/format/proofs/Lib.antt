@@ -11,12 +11,14 @@ pub mod Bounds
 pub mod FixedLoop
 pub mod Prefix
 pub mod Newness
+pub mod Newer
 pub mod Examples
 pub mod Nested
 pub mod NestedLsa
 pub mod Shown
 pub mod Walks
 pub mod Refusals
+pub mod Steps
 pub mod Within
 pub mod Part
 pub mod Program

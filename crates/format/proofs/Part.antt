@@ -1,16 +1,16 @@
 -- The part of a packet: what its number says; and that every accepted walk's strip gives back the walk's entries, and
 -- with those of kind 8 the bytes of its data.
-use Prim.Native.Nat.{ℕ, zero, suc, _+_, _-_, _≤_}
+use Prim.Native.Nat.{ℕ, zero, suc, _+_, _-_, _≤_, _<_}
 use native.Mathlib.Omega.{arith}
 use mathlib.Core.Path.{_≡_, refl, ap, _∙_}
-use mathlib.Core.Logic.{_↔_}
+use mathlib.Core.Logic.{_↔_, _⊎_, inl, inr, ⊎-elim}
 use mathlib.Core.Bool.{Bool, true, false, cond}
 use mathlib.Core.List.{List, [], _∷_, _++_, List·Memᴰ}
 use mathlib.Core.Option.{Option, none, some}
 use lib.ListN.{length, take, drop, length-append, length-drop}
 use lib.Seq.{length-take-le, drop-append-add, drop-append-le, take-append-le}
 use lib.Dec.{ltb, leb, eqb}
-use borrow.Author.Tests.{ltb-false, leb-true, leb-false, le-ltb, le-leb, lt-leb, eqb-true, eqb-false}
+use borrow.Author.Tests.{ltb-true, ltb-false, leb-true, leb-false, le-ltb, le-leb, lt-leb, eqb-true, eqb-false}
 use Rattle.format.specs.Bytes.{part}
 use Rattle.format.specs.Strip.{Entry, Step, encode, stepAt, readFrom, readAll}
 use Rattle.format.specs.Strip.Entry.{bytes}
@@ -20,10 +20,11 @@ use Rattle.format.specs.Header.{headerSize}
 use Rattle.format.specs.Body.{whole}
 use Rattle.format.specs.Walks.{answerOf, stripOf, unless, refusal, lsaEntries, headerObject, lsaObject, outer, headers, lsas, headersOf, updateOf, lsaOf}
 use Rattle.format.specs.Walks.Outcome.{accepted, refused as refusing}
-use Rattle.format.specs.Part.{liesIn, partNumber, partOf, Names, Reads, GivesBack}
+use Rattle.format.specs.Part.{liesIn, partNumber, partPlace, partOf, Names, Reads, GivesBack}
 use Rattle.format.specs.Part.Reads.{ends, steps}
+use Rattle.format.specs.Refusals.{Parts}
 use Rattle.format.proofs.Shown.{read-strip}
-use Rattle.format.proofs.Refusals.{limits}
+use Rattle.format.proofs.Refusals.{limits, not-le}
 use Rattle.format.proofs.Within.{Within, within-member, within-cut, within-items, within-outer, within-header-object, within-lsa-object, within-lsa}
 
 -- What the test says of the numbers.
@@ -56,6 +57,28 @@ part-numbers n o s e = go (liesIn n o s e) refl
     go false q =
         let never : Lies n o s e → ⊥ = λ l. let z : _≡_ {A = Bool} true false = cc (lies-in n o s e l) in let y : _≡_ {A = ℕ} 0 1 = cc in omega arith in
         ((λ h. absurd (omega arith), λ l. absurd (never l)), (λ h. never, λ f. refl))
+
+-- The same in the table's words, with what is handed back.
+pub parts : (packet : List ℕ) (o s e : ℕ) → Parts packet o s e
+unfolding partNumber partOf partPlace
+parts packet o s e = record {
+  nine = (λ h. outside (part-numbers (length packet) o s e .1 .0 h), λ h. part-numbers (length packet) o s e .1 .1 (λ l. ⊎-elim (λ z. omega arith) (λ z. ⊎-elim (λ y. omega arith) (λ y. omega arith) z) h));
+  zero = (λ h. let l = part-numbers (length packet) o s e .0 .0 h in (l .from, l .ordered, l .to), λ h. part-numbers (length packet) o s e .0 .1 (record { from = h .0; ordered = h .1; to = h .2 }));
+  empty = λ h. go (liesIn (length packet) o s e) refl h;
+  there = λ h. let q = lies-in (length packet) o s e (part-numbers (length packet) o s e .0 .0 h) in (rw q, rw q);
+}
+  where
+    outside : (Lies (length packet) o s e → ⊥) → (s < o) ⊎ (e < s) ⊎ (o + length packet < e)
+    outside f = pick (ltb s o) refl (ltb e s) refl
+      where
+        pick : (a : Bool) → ltb s o ≡ a → (b : Bool) → ltb e s ≡ b → (s < o) ⊎ (e < s) ⊎ (o + length packet < e)
+        pick true x b y = inl (ltb-true s o x)
+        pick false x true y = inr (inl (ltb-true e s y))
+        pick false x false y = inr (inr (not-le (λ z. f (record { from = ltb-false s o x; ordered = ltb-false e s y; to = z }))))
+
+    go : (t : Bool) → liesIn (length packet) o s e ≡ t → _≡_ {A = ℕ} (cond t 0 9) 9 → (partOf packet o s e ≡ []) × (partPlace (length packet) o s e ≡ 0)
+    go true q h = absurd (omega arith)
+    go false q h = (rw q, rw q)
 
 -- The last test without its sum.
 pub without-sum : (n offset end : ℕ) → offset ≤ end → leb (end - offset) n ≡ leb end (offset + n)

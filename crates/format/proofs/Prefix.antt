@@ -1,15 +1,18 @@
 -- Prefixes: their octets and addresses are of the right length, and comparison decides equality.
-use Prim.Native.Nat.{ℕ, _+_, _*_, _/_, _≤_}
+use Prim.Native.Nat.{ℕ, _+_, _*_, _/_, _≤_, _<_}
 use native.Mathlib.Omega.{arith}
 use mathlib.Core.Path.{_≡_, refl}
+use mathlib.Core.Logic.{_⊎_, inl, inr}
 use mathlib.Core.Bool.{Bool, true, false, cond}
 use mathlib.Core.List.{List, [], _∷_, _++_}
 use mathlib.Core.Option.{none, some}
 use lib.ListN.{length, replicate, length-append, length-replicate}
 use lib.Seq.{length-take-le}
-use lib.Dec.{leb, eqb}
-use borrow.Author.Tests.{leb-true, eqb-true, eq-eqb}
-use Rattle.format.specs.Prefix.{octets, address, sameBytes, comparison}
+use lib.Dec.{leb, ltb, eqb}
+use borrow.Author.Tests.{leb-true, ltb-true, ltb-false, lt-ltb, le-ltb, eqb-true, eqb-false, eq-eqb}
+use Rattle.format.specs.Prefix.{octets, address, sameBytes, Comparison, comparison}
+use Rattle.format.specs.Prefix.Comparison.{same, different, refused}
+use Rattle.format.specs.Refusals.{Compares}
 
 -- A prefix has at most 16 octets, in whole words of 32 bits.
 pub octets-bound : (l n : ℕ) → octets l ≡ some n → (l ≤ 128) × (n ≤ 16)
@@ -39,3 +42,53 @@ pub same-bytes-self : (xs : List ℕ) → sameBytes xs xs ≡ true
 unfolding sameBytes
 same-bytes-self [] = refl
 same-bytes-self (x ∷ xs) = rw (eq-eqb x x refl) (same-bytes-self xs)
+
+-- What each answer of the comparison says.
+module _ (l : ℕ) (a : List ℕ) (m : ℕ) (b : List ℕ) where
+  abbrev Says : Comparison → Type 0
+  Says same = (l ≤ 128) × (m ≤ 128) × (l ≡ m) × (a ≡ b)
+  Says different = (l ≤ 128) × (m ≤ 128) × (l ≡ m → a ≡ b → ⊥)
+  Says (refused n) = (n ≡ 10) × ((128 < l) ⊎ (128 < m))
+
+  says : Says (comparison l a m b)
+  unfolding comparison
+  says = go (ltb 128 l) refl (ltb 128 m) refl (eqb l m) refl (sameBytes a b) refl
+    where
+      go : (s : Bool) → ltb 128 l ≡ s → (t : Bool) → ltb 128 m ≡ t → (u : Bool) → eqb l m ≡ u → (w : Bool) → sameBytes a b ≡ w → Says (comparison l a m b)
+      go true h t i u j w k = rw h (refl, inl (ltb-true 128 l h))
+      go false h true i u j w k = rw (h, i) (refl, inr (ltb-true 128 m i))
+      go false h false i true j true k = rw (h, i, j, k) (ltb-false 128 l h, ltb-false 128 m i, eqb-true l m j, same-bytes a b k)
+      go false h false i true j false k =
+          rw (h, i, j, k) (ltb-false 128 l h, ltb-false 128 m i, λ e f. let z : _≡_ {A = Bool} true false = cc (same-bytes-self a, k) in let y : _≡_ {A = ℕ} 0 1 = cc in omega arith)
+      go false h false i false j w k = rw (h, i, j) (ltb-false 128 l h, ltb-false 128 m i, λ e f. eqb-false l m j e)
+
+  too-long : (128 < l) ⊎ (128 < m) → comparison l a m b ≡ refused 10
+  unfolding comparison
+  too-long (inl h) = rw (lt-ltb 128 l h)
+  too-long (inr h) = go (ltb 128 l) (lt-ltb 128 m h)
+    where
+      go : (t : Bool) → ltb 128 m ≡ true → cond t (refused 10) (cond (ltb 128 m) (refused 10) (cond (eqb l m) (cond (sameBytes a b) same different) different)) ≡ refused 10
+      go true e = refl
+      go false e = rw e
+
+  alike : l ≤ 128 → m ≤ 128 → l ≡ m → a ≡ b → comparison l a m b ≡ same
+  unfolding comparison
+  alike h k e f = rw (le-ltb 128 l h, le-ltb 128 m k, eq-eqb l m e, ← f, same-bytes-self a)
+
+  unlike : l ≤ 128 → m ≤ 128 → (l ≡ m → a ≡ b → ⊥) → comparison l a m b ≡ different
+  unfolding comparison
+  unlike h k n = rw (le-ltb 128 l h, le-ltb 128 m k) (go (eqb l m) refl (sameBytes a b) refl)
+    where
+      go : (t : Bool) → eqb l m ≡ t → (u : Bool) → sameBytes a b ≡ u → cond t (cond u same different) different ≡ different
+      go true e true f = absurd (n (eqb-true l m e) (same-bytes a b f))
+      go true e false f = refl
+      go false e u f = refl
+
+  -- Each answer, exactly when.
+  pub compares : Compares l a m b
+  compares = record {
+    ten = (λ e. rw e at says .1, too-long);
+    are-same = (λ e. rw e at says, λ h. alike (h .0) (h .1) (h .2) (h .3));
+    are-different = (λ e. rw e at says, λ h. unlike (h .0) (h .1) (h .2));
+    no-other = λ n e. rw e at says .0;
+  }

@@ -3,15 +3,17 @@
 use Prim.Native.Nat.{ℕ, _<_, _≤_}
 use native.Mathlib.Omega.{arith}
 use mathlib.Core.Path.{_≡_, refl}
+use mathlib.Core.Logic.{⊎-elim}
 use mathlib.Core.Bool.{Bool, true, false, cond}
 use mathlib.Core.List.{List}
 use lib.ListN.{length}
 use lib.Seq.{sets}
-use lib.Dec.{eqb, ltb}
-use borrow.Author.Tests.{ltb-true, ltb-false, eqb-true, eqb-false, lt-ltb, le-ltb, eq-eqb, ne-eqb}
+use lib.Dec.{eqb, leb, ltb}
+use borrow.Author.Tests.{ltb-true, ltb-false, leb-true, leb-false, eqb-true, eqb-false, lt-ltb, le-ltb, eq-eqb, ne-eqb}
 use Rattle.format.specs.Strip.{Entry, encode}
-use Rattle.format.specs.Walks.{Outcome, answer, answerOf, stripOf, unless, isKnown, refusal, maxData, maxOffset, NoVersion, TooMuch, TooFar, TooLittle, Refusals, headersOf, updateOf, lsaOf, outer, headerObject, lsaObject, headers, lsas, lsaEntries}
+use Rattle.format.specs.Walks.{Outcome, answer, answerOf, stripOf, unless, isKnown, refusal, maxData, maxOffset, headersOf, updateOf, lsaOf, outer, headerObject, lsaObject, headers, lsas, lsaEntries}
 use Rattle.format.specs.Header.{headerSize}
+use Rattle.format.specs.Refusals.{NoVersion, TooMuch, TooFar, TooLittle, Numbers, Refusals}
 use Rattle.format.specs.Walks.Outcome.{refused, accepted}
 
 -- A proposition that a test decides.
@@ -36,9 +38,23 @@ no-version v = go (eqb v 2) refl (eqb v 3) refl
     go false e false f = fails (λ n. n (eqb-false v 2 e, eqb-false v 3 f))
 
 -- The table, from the tests in their order.
+pub not-less : {a b : ℕ} → (a < b → ⊥) → b ≤ a
+not-less {a} {b} h = go (ltb a b) refl
+  where
+    go : (t : Bool) → ltb a b ≡ t → b ≤ a
+    go true e = absurd (h (ltb-true a b e))
+    go false e = ltb-false a b e
+
+pub not-le : {a b : ℕ} → (a ≤ b → ⊥) → b < a
+not-le {a} {b} h = go (leb a b) refl
+  where
+    go : (t : Bool) → leb a b ≡ t → b < a
+    go true e = absurd (h (leb-true a b e))
+    go false e = leb-false a b e
+
 table : (v : ℕ) (d : List ℕ) (o least room needed : ℕ) {a b c e f : Bool}
     → Decided (NoVersion v → ⊥) a → Decided (TooMuch d) b → Decided (TooFar o) c → Decided (TooLittle d least) e → Decided (room < needed) f
-    → Refusals v d o least room needed (cond a (cond b 2 (cond c 3 (cond e 4 (cond f 5 0)))) 1)
+    → Numbers v d o least room needed (cond a (cond b 2 (cond c 3 (cond e 4 (cond f 5 0)))) 1)
 table v d o least room needed (fails nn) m f l r = record {
   one = (λ h. (λ e. nn (λ n. n .0 e), λ e. nn (λ n. n .1 e)), λ p. refl);
   two = (λ h. absurd (omega arith), λ p. absurd (nn (p .0)));
@@ -46,6 +62,7 @@ table v d o least room needed (fails nn) m f l r = record {
   four = (λ h. absurd (omega arith), λ p. absurd (nn (p .0)));
   five = (λ h. absurd (omega arith), λ p. absurd (nn (p .0)));
   zero = (λ h. absurd (omega arith), λ p. absurd (nn (p .0)));
+  no-other = omega arith;
 }
 table v d o least room needed (holds k) (holds c) f l r = record {
   one = (λ h. absurd (omega arith), λ p. absurd (k p));
@@ -54,6 +71,7 @@ table v d o least room needed (holds k) (holds c) f l r = record {
   four = (λ h. absurd (omega arith), λ p. absurd (p .1 c));
   five = (λ h. absurd (omega arith), λ p. absurd (p .1 c));
   zero = (λ h. absurd (omega arith), λ p. absurd (p .1 c));
+  no-other = omega arith;
 }
 table v d o least room needed (holds k) (fails n2) (holds c) l r = record {
   one = (λ h. absurd (omega arith), λ p. absurd (k p));
@@ -62,6 +80,7 @@ table v d o least room needed (holds k) (fails n2) (holds c) l r = record {
   four = (λ h. absurd (omega arith), λ p. absurd (p .2 c));
   five = (λ h. absurd (omega arith), λ p. absurd (p .2 c));
   zero = (λ h. absurd (omega arith), λ p. absurd (p .2 c));
+  no-other = omega arith;
 }
 table v d o least room needed (holds k) (fails n2) (fails n3) (holds c) r = record {
   one = (λ h. absurd (omega arith), λ p. absurd (k p));
@@ -70,6 +89,7 @@ table v d o least room needed (holds k) (fails n2) (fails n3) (holds c) r = reco
   four = (λ h. (k, n2, n3, c), λ p. refl);
   five = (λ h. absurd (omega arith), λ p. absurd (p .3 c));
   zero = (λ h. absurd (omega arith), λ p. absurd (p .3 c));
+  no-other = omega arith;
 }
 table v d o least room needed (holds k) (fails n2) (fails n3) (fails n4) (holds c) = record {
   one = (λ h. absurd (omega arith), λ p. absurd (k p));
@@ -77,7 +97,8 @@ table v d o least room needed (holds k) (fails n2) (fails n3) (fails n4) (holds 
   three = (λ h. absurd (omega arith), λ p. absurd (n3 (p .2)));
   four = (λ h. absurd (omega arith), λ p. absurd (n4 (p .3)));
   five = (λ h. (k, n2, n3, n4, c), λ p. refl);
-  zero = (λ h. absurd (omega arith), λ p. absurd (p .4 c));
+  zero = (λ h. absurd (omega arith), λ p. absurd (omega (arith, c, p .4)));
+  no-other = omega arith;
 }
 table v d o least room needed (holds k) (fails n2) (fails n3) (fails n4) (fails n5) = record {
   one = (λ h. absurd (omega arith), λ p. absurd (k p));
@@ -85,7 +106,8 @@ table v d o least room needed (holds k) (fails n2) (fails n3) (fails n4) (fails 
   three = (λ h. absurd (omega arith), λ p. absurd (n3 (p .2)));
   four = (λ h. absurd (omega arith), λ p. absurd (n4 (p .3)));
   five = (λ h. absurd (omega arith), λ p. absurd (n5 (p .4)));
-  zero = (λ h. (k, n2, n3, n4, n5), λ p. refl);
+  zero = (λ h. (k, n2, n3, n4, not-less n5), λ p. refl);
+  no-other = omega arith;
 }
 
 -- The number that is answered is that of the first test that fails.
@@ -105,11 +127,29 @@ number-is v d o least es r t room =
     go true false false false true q = rw q
     go true false false false false q = rw q
 
+most-refusal : (v : ℕ) (d : List ℕ) (o least : ℕ) → refusal v d o least ≤ 4
+most-refusal v d o least = go (isKnown v) (ltb maxData (length d)) (ltb maxOffset o) (ltb (length d) least)
+  where
+    go : (a b c e : Bool) → cond a (cond b 2 (cond c 3 (cond e 4 0))) 1 ≤ 4
+    go false b c e = omega arith
+    go true true c e = omega arith
+    go true false true e = omega arith
+    go true false false true = omega arith
+    go true false false false = omega arith
+
 pub refusals : (v : ℕ) (d : List ℕ) (o least : ℕ) (es : List Entry) (r t room : ℕ)
-    → Refusals v d o least room (length (encode es)) (answerOf (unless (refusal v d o least) (accepted es r t)) room .number)
+    → Refusals v d o least room (length (encode es)) (answerOf (unless (refusal v d o least) (accepted es r t)) room)
+unfolding unless answerOf
 refusals v d o least es r t room =
-    rw (number-is v d o least es r t room)
-    (table v d o least room (length (encode es)) (no-version v) (less maxData (length d)) (less maxOffset o) (less (length d) least) (less room (length (encode es))))
+    go (eqb (refusal v d o least) 0) refl (ltb room (length (encode es))) refl
+    (rw (number-is v d o least es r t room)
+    (table v d o least room (length (encode es)) (no-version v) (less maxData (length d)) (less maxOffset o) (less (length d) least) (less room (length (encode es)))))
+  where
+    go : (s : Bool) → eqb (refusal v d o least) 0 ≡ s → (f : Bool) → ltb room (length (encode es)) ≡ f → Numbers v d o least room (length (encode es)) (answerOf (unless (refusal v d o least) (accepted es r t)) room .number)
+        → Refusals v d o least room (length (encode es)) (answerOf (unless (refusal v d o least) (accepted es r t)) room)
+    go true p true q n = record { numbers = n; length-of = λ h. rw (p, q); no-length = λ h k. absurd (k (rw (p, q))); no-records = λ h. rw (p, q) (refl, refl) }
+    go true p false q n = record { numbers = n; length-of = λ h. rw (p, q); no-length = λ h k. absurd (h (rw (p, q))); no-records = λ h. absurd (h (rw (p, q))) }
+    go false p f q n = record { numbers = n; length-of = λ h. absurd (⊎-elim (λ z. eqb-false (refusal v d o least) 0 p (rw p at z)) (λ z. let y = rw p at z in let m = most-refusal v d o least in omega arith) h); no-length = λ h k. rw p; no-records = λ h. rw p (refl, refl) }
 
 -- A call that is not accepted leaves the buffer, and answers no record and no tail.
 pub refused-leaves : (x : Outcome) (before : List ℕ) → (answerOf x (length before) .number ≡ 0 → ⊥)
@@ -125,17 +165,17 @@ refused-leaves (accepted es r t) before h = go (ltb (length before) (length (enc
 
 -- The table of each walk.
 pub headers-refusals : (v : ℕ) (d : List ℕ) (o room : ℕ)
-    → Refusals v d o 0 room (length (encode (outer v (headerObject v d o) d o 0 (headers d)))) (answerOf (headersOf v d o) room .number)
+    → Refusals v d o 0 room (length (encode (outer v (headerObject v d o) d o 0 (headers d)))) (answerOf (headersOf v d o) room)
 unfolding headersOf
 headers-refusals v d o room = refusals v d o 0 _ _ _ room
 
 pub update-refusals : (v : ℕ) (d : List ℕ) (count o room : ℕ)
-    → Refusals v d o 4 room (length (encode (outer v (lsaObject v d o) d o 4 (lsas d count)))) (answerOf (updateOf v d count o) room .number)
+    → Refusals v d o 4 room (length (encode (outer v (lsaObject v d o) d o 4 (lsas d count)))) (answerOf (updateOf v d count o) room)
 unfolding updateOf
 update-refusals v d count o room = refusals v d o 4 _ _ _ room
 
 pub lsa-refusals : (v : ℕ) (d : List ℕ) (o room : ℕ)
-    → Refusals v d o headerSize room (length (encode (lsaEntries v d o))) (answerOf (lsaOf v d o) room .number)
+    → Refusals v d o headerSize room (length (encode (lsaEntries v d o))) (answerOf (lsaOf v d o) room)
 unfolding lsaOf
 lsa-refusals v d o room = refusals v d o headerSize _ _ _ room
 

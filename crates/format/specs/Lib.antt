@@ -12,4 +12,6 @@ pub mod V3
 pub mod Walks
 pub mod Shown
 pub mod Part
+pub mod Refusals
+pub mod Newer
 pub mod Print

@@ -1,7 +1,5 @@
 -- The three walks: a header list, a link-state update, a single LSA. What each makes of its data, or which refusal.
-use Prim.Native.Nat.{ℕ, _+_, _-_, _*_, _<_}
-use mathlib.Core.Path.{_≡_}
-use mathlib.Core.Logic.{_↔_}
+use Prim.Native.Nat.{ℕ, _+_, _-_, _*_}
 use mathlib.Core.Bool.{Bool, true, cond}
 use mathlib.Core.List.{List, [], _++_}
 use lib.ListN.{length}
@@ -111,25 +109,3 @@ stripOf (accepted es r t) before = cond (ltb (length before) (length (encode es)
 -- The answer to the host, in one number of 64 bits: the length in the low 32, the number in the next 8.
 abbrev pub packed : Answer → ℕ
 packed a = a .number * 4294967296 + a .size
-
--- The conditions of the refusals, in their order.
-abbrev pub NoVersion : ℕ → Type 0
-NoVersion v = (v ≡ 2 → ⊥) × (v ≡ 3 → ⊥)
-
-abbrev pub TooMuch : List ℕ → Type 0
-TooMuch d = maxData < length d
-
-abbrev pub TooFar : ℕ → Type 0
-TooFar o = maxOffset < o
-
-abbrev pub TooLittle : List ℕ → ℕ → Type 0
-TooLittle d least = length d < least
-
--- Each number is answered exactly when its condition holds and none before it does. `needed` is the strip's length.
-pub record Refusals (v : ℕ) (d : List ℕ) (o least room needed number : ℕ) : Type 0 where
-  pub one : (number ≡ 1) ↔ NoVersion v
-  pub two : (number ≡ 2) ↔ ((NoVersion v → ⊥) × TooMuch d)
-  pub three : (number ≡ 3) ↔ ((NoVersion v → ⊥) × (TooMuch d → ⊥) × TooFar o)
-  pub four : (number ≡ 4) ↔ ((NoVersion v → ⊥) × (TooMuch d → ⊥) × (TooFar o → ⊥) × TooLittle d least)
-  pub five : (number ≡ 5) ↔ ((NoVersion v → ⊥) × (TooMuch d → ⊥) × (TooFar o → ⊥) × (TooLittle d least → ⊥) × (room < needed))
-  pub zero : (number ≡ 0) ↔ ((NoVersion v → ⊥) × (TooMuch d → ⊥) × (TooFar o → ⊥) × (TooLittle d least → ⊥) × (room < needed → ⊥))

@@ -1,0 +1,111 @@
+-- The strip reader's step, case by case: what it answers, exactly when.
+use Prim.Native.Nat.{ℕ, zero, suc, _+_, _-_, _≤_, _<_}
+use native.Mathlib.Omega.{arith}
+use mathlib.Core.Path.{_≡_, refl, _∙_}
+use mathlib.Core.Logic.{_⊎_, inl, inr, ⊎-elim}
+use mathlib.Core.Bool.{Bool, true, false, cond}
+use mathlib.Core.List.{List}
+use mathlib.Core.Option.{Option, none, some}
+use lib.ListN.{length, getD}
+use lib.Dec.{ltb, leb, eqb}
+use borrow.Author.Tests.{ltb-true, ltb-false, leb-true, leb-false, eqb-true, eqb-false, lt-ltb, le-ltb, le-leb, lt-leb, eq-eqb, ne-eqb}
+use Rattle.format.specs.Strip.{Entry, Step, bodyLength, entryAt, stepAt}
+use Rattle.format.specs.Strip.Step.{entry, end, refused}
+use Rattle.format.specs.Refusals.{bodyBytes, Kind, entryEnd, Steps}
+
+-- The kinds are 1 to 8 and no other, and their bodies' lengths are those of the table.
+pub kind-length : (k : ℕ) → Kind k → bodyLength k ≡ some (getD bodyBytes (k - 1) 0)
+kind-length zero h = absurd (omega arith)
+kind-length (suc zero) h = refl
+kind-length (suc (suc zero)) h = refl
+kind-length (suc (suc (suc zero))) h = refl
+kind-length (suc (suc (suc (suc zero)))) h = refl
+kind-length (suc (suc (suc (suc (suc zero))))) h = refl
+kind-length (suc (suc (suc (suc (suc (suc zero)))))) h = refl
+kind-length (suc (suc (suc (suc (suc (suc (suc zero))))))) h = refl
+kind-length (suc (suc (suc (suc (suc (suc (suc (suc zero)))))))) h = refl
+kind-length (suc (suc (suc (suc (suc (suc (suc (suc (suc k))))))))) h = absurd (omega arith)
+
+pub no-kind : (k : ℕ) → (Kind k → ⊥) → bodyLength k ≡ none
+no-kind zero h = refl
+no-kind (suc k) h = go (leb (suc k) 8) refl
+  where
+    go : (t : Bool) → leb (suc k) 8 ≡ t → bodyLength (suc k) ≡ none
+    go true e = absurd (h (omega arith, leb-true (suc k) 8 e))
+    go false e =
+        let l = leb-false (suc k) 8 e in
+        let other : (n : ℕ) → n ≤ 8 → eqb (suc k) n ≡ false = λ n m. ne-eqb (suc k) n (λ z. omega arith) in
+        rw (other 1 (omega arith), other 2 (omega arith), other 3 (omega arith), other 4 (omega arith), other 5 (omega arith), other 6 (omega arith), other 7 (omega arith), other 8 (omega arith))
+
+-- What each answer says of the strip and the place.
+abbrev Says : List ℕ → ℕ → Step → Type 0
+Says s p (entry x q) = (p < length s) × Kind (getD s p 0) × (entryEnd s p ≤ length s) × (x ≡ entryAt (getD s p 0) s (p + 1)) × (q ≡ entryEnd s p)
+Says s p end = p ≡ length s
+Says s p (refused n) =
+    ((n ≡ 6) × (length s < p)) ⊎ ((n ≡ 7) × (p < length s) × (Kind (getD s p 0) → ⊥)) ⊎ ((n ≡ 8) × (p < length s) × Kind (getD s p 0) × (length s < entryEnd s p))
+
+module _ (s : List ℕ) (p : ℕ) where
+  -- The answers, from what is known of the place.
+  beyond : length s < p → stepAt s p ≡ refused 6
+  unfolding stepAt
+  beyond h = rw (lt-ltb (length s) p h)
+
+  ended : p ≡ length s → stepAt s p ≡ end
+  unfolding stepAt
+  ended h = rw (le-ltb (length s) p (omega arith), eq-eqb p (length s) h)
+
+  unknown : p < length s → (Kind (getD s p 0) → ⊥) → stepAt s p ≡ refused 7
+  unfolding stepAt
+  unknown h k = rw (le-ltb (length s) p (omega arith), ne-eqb p (length s) (λ e. omega arith), no-kind (getD s p 0) k)
+
+  cut-off : p < length s → Kind (getD s p 0) → length s < entryEnd s p → stepAt s p ≡ refused 8
+  unfolding stepAt
+  cut-off h k l = rw (le-ltb (length s) p (omega arith), ne-eqb p (length s) (λ e. omega arith), kind-length (getD s p 0) k, lt-leb (entryEnd s p) (length s) l)
+
+  whole : p < length s → Kind (getD s p 0) → entryEnd s p ≤ length s → stepAt s p ≡ entry (entryAt (getD s p 0) s (p + 1)) (entryEnd s p)
+  unfolding stepAt
+  whole h k l = rw (le-ltb (length s) p (omega arith), ne-eqb p (length s) (λ e. omega arith), kind-length (getD s p 0) k, le-leb (entryEnd s p) (length s) l)
+
+  -- One of these holds.
+  says : Says s p (stepAt s p)
+  says = go (ltb (length s) p) refl (ltb p (length s)) refl (leb 1 (getD s p 0)) refl (leb (getD s p 0) 8) refl (leb (entryEnd s p) (length s)) refl
+    where
+      go : (a : Bool) → ltb (length s) p ≡ a → (b : Bool) → ltb p (length s) ≡ b → (c : Bool) → leb 1 (getD s p 0) ≡ c → (d : Bool) → leb (getD s p 0) 8 ≡ d
+          → (e : Bool) → leb (entryEnd s p) (length s) ≡ e → Says s p (stepAt s p)
+      go true h b i c j d k e l = let z = ltb-true (length s) p h in rw (beyond z) (inl (refl, z))
+      go false h false i c j d k e l = let z : p ≡ length s = omega (arith, ltb-false (length s) p h, ltb-false p (length s) i) in rw (ended z) z
+      go false h true i false j d k e l =
+          let z = ltb-true p (length s) i in
+          let n : Kind (getD s p 0) → ⊥ = λ y. let x = leb-false 1 (getD s p 0) j in let w = y .0 in omega arith in
+          rw (unknown z n) (inr (inl (refl, z, n)))
+      go false h true i true j false k e l =
+          let z = ltb-true p (length s) i in
+          let n : Kind (getD s p 0) → ⊥ = λ y. let x = leb-false (getD s p 0) 8 k in let w = y .1 in omega arith in
+          rw (unknown z n) (inr (inl (refl, z, n)))
+      go false h true i true j true k false l =
+          let z = ltb-true p (length s) i in
+          let n : Kind (getD s p 0) = (leb-true 1 (getD s p 0) j, leb-true (getD s p 0) 8 k) in
+          let m = leb-false (entryEnd s p) (length s) l in
+          rw (cut-off z n m) (inr (inr (refl, z, n, m)))
+      go false h true i true j true k true l =
+          let z = ltb-true p (length s) i in
+          let n : Kind (getD s p 0) = (leb-true 1 (getD s p 0) j, leb-true (getD s p 0) 8 k) in
+          let m = leb-true (entryEnd s p) (length s) l in
+          rw (whole z n m) (z, n, m, refl, refl)
+
+  -- Every step answers by the table.
+  pub steps : Steps s p
+  steps = record {
+    six = (λ e. ⊎-elim (λ z. z .1) (λ z. absurd (⊎-elim (λ y. let n = y .0 in omega arith) (λ y. let n = y .0 in omega arith) z)) (rw e at says), beyond);
+    ends = (λ e. rw e at says, ended);
+    seven = (
+      λ e. ⊎-elim (λ z. absurd (let n = z .0 in omega arith)) (λ z. ⊎-elim (λ y. (y .1, y .2)) (λ y. absurd (let n = y .0 in omega arith)) z) (rw e at says),
+      λ h. unknown (h .0) (h .1),
+    );
+    eight = (
+      λ e. ⊎-elim (λ z. absurd (let n = z .0 in omega arith)) (λ z. ⊎-elim (λ y. absurd (let n = y .0 in omega arith)) (λ y. (y .1, y .2, y .3)) z) (rw e at says),
+      λ h. cut-off (h .0) (h .1) (h .2),
+    );
+    gives = λ x q. (λ e. rw e at says, λ h. whole (h .0) (h .1) (h .2) ∙ rw (h .3, h .4));
+    no-other = λ n e. ⊎-elim (λ z. inl (z .0)) (λ z. inr (⊎-elim (λ y. inl (y .0)) (λ y. inr (y .0)) z)) (rw e at says);
+  }
