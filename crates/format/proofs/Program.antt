@@ -43,7 +43,7 @@ walk-numbers v w d n o h = go (eqb w 0) (eqb w 1)
     go false false = numbers v d o 20 _ _ _ stripRoom h
 
 -- The tests of the program, in their order.
-pub program-refusals : (input : List ℕ) → ProgramRefusals input (answerOf (programOf input) stripRoom .number)
+pub program-refusals : (input : List ℕ) → ProgramRefusals input (answerOf (programOf input) 65536 .number)
 unfolding programOf answerOf
 program-refusals input = first (ltb maxInput (length input)) refl
   where

@@ -175,7 +175,7 @@ unfolding updateOf
 update-refusals v d count o room = refusals v d o 4 _ _ _ room
 
 pub lsa-refusals : (v : ℕ) (d : List ℕ) (o room : ℕ)
-    → Refusals v d o headerSize room (length (encode (lsaEntries v d o))) (answerOf (lsaOf v d o) room)
+    → Refusals v d o 20 room (length (encode (lsaEntries v d o))) (answerOf (lsaOf v d o) room)
 unfolding lsaOf
 lsa-refusals v d o room = refusals v d o headerSize _ _ _ room
 

@@ -9,9 +9,13 @@ use Rattle.format.specs.Bytes.{part, be64At}
 use Rattle.format.specs.Strip.{Entry}
 use Rattle.format.specs.Strip.Entry.{ip6}
 
+-- The most bits of a prefix.
+abbrev pub maxPrefix : ℕ
+maxPrefix = 128
+
 -- The octets of a prefix of so many bits: four for each 32 bits begun, and none above 128 bits.
 unfoldable pub octets : ℕ → Option ℕ
-octets l = cond (leb l 128) (some ((l + 31) / 32 * 4)) none
+octets l = cond (leb l maxPrefix) (some ((l + 31) / 32 * 4)) none
 
 -- The address of a prefix: its octets, then zeros to 16. More than 16 octets are cut.
 unfoldable pub address : List ℕ → List ℕ
@@ -37,6 +41,6 @@ pub data Comparison : Type 0 where
 -- Two prefixes, each a length in bits and an address of 16 bytes. 10: a length is above 128.
 unfoldable pub comparison : ℕ → List ℕ → ℕ → List ℕ → Comparison
 comparison l a m b =
-    cond (ltb 128 l) (refused 10)
-    (cond (ltb 128 m) (refused 10)
+    cond (ltb maxPrefix l) (refused 10)
+    (cond (ltb maxPrefix m) (refused 10)
     (cond (eqb l m) (cond (sameBytes a b) same different) different))

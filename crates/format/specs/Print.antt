@@ -9,7 +9,7 @@ use lib.Dec.{ltb, eqb}
 use Rattle.format.specs.Bytes.{be32At}
 use Rattle.format.specs.Strip.{Entry}
 use Rattle.format.specs.Strip.Entry.{opens, closes, u8, u16, u32, ip4, ip6, bytes}
-use Rattle.format.specs.Walks.{Outcome, Answer, walkOf, answerOf}
+use Rattle.format.specs.Walks.{Outcome, Answer, walkOf, answerOf, firstLsa}
 use Rattle.format.specs.Walks.Outcome.{refused, accepted}
 
 -- The most bytes of input, and the room of the program's strip buffer.
@@ -21,7 +21,7 @@ stripRoom = 65536
 
 -- An update's count is its first four bytes, 0 if they are not there.
 abbrev pub countOf : List ℕ → ℕ
-countOf d = cond (ltb (length d) 4) 0 (be32At d 0)
+countOf d = cond (ltb (length d) firstLsa) 0 (be32At d 0)
 
 -- The walk that the second byte names, at the offset 0.
 abbrev pub namedWalk : List ℕ → Outcome
@@ -137,11 +137,11 @@ printed input = firstLine (answerOf (programOf input) stripRoom) ++ flatMap line
 
 -- The number of the walk that the input names.
 abbrev pub walkNumber : List ℕ → ℕ
-walkNumber input = answerOf (namedWalk input) stripRoom .number
+walkNumber input = answerOf (namedWalk input) 65536 .number
 
 -- The conditions of the program's own refusals, in their order.
 abbrev pub TooLong : List ℕ → Type 0
-TooLong input = maxInput < length input
+TooLong input = 2050 < length input
 
 abbrev pub TooShort : List ℕ → Type 0
 TooShort input = length input < 2

@@ -19,19 +19,44 @@ pub data Entry : Type 0 where
   ip6 : (id start end high low : ℕ) → Entry
   bytes : (id start end : ℕ) → Entry
 
+-- The kinds, each the first byte of an entry.
+abbrev pub openKind : ℕ
+openKind = 1
+
+abbrev pub closeKind : ℕ
+closeKind = 2
+
+abbrev pub u8Kind : ℕ
+u8Kind = 3
+
+abbrev pub u16Kind : ℕ
+u16Kind = 4
+
+abbrev pub u32Kind : ℕ
+u32Kind = 5
+
+abbrev pub ip4Kind : ℕ
+ip4Kind = 6
+
+abbrev pub ip6Kind : ℕ
+ip6Kind = 7
+
+abbrev pub bytesKind : ℕ
+bytesKind = 8
+
 abbrev pub head : ℕ → ℕ → ℕ → List ℕ
 head i s e = i ∷ (be32 s ++ be32 e)
 
 -- An entry's bytes: its kind, then a body whose length the kind fixes.
 unfoldable pub code : Entry → List ℕ
-code (opens i s e) = 1 ∷ head i s e
-code closes = 2 ∷ []
-code (u8 i s e v) = 3 ∷ (head i s e ++ (v ∷ []))
-code (u16 i s e v) = 4 ∷ (head i s e ++ be16 v)
-code (u32 i s e v) = 5 ∷ (head i s e ++ be32 v)
-code (ip4 i s e a) = 6 ∷ (head i s e ++ be32 a)
-code (ip6 i s e h l) = 7 ∷ (head i s e ++ (be64 h ++ be64 l))
-code (bytes i s e) = 8 ∷ head i s e
+code (opens i s e) = openKind ∷ head i s e
+code closes = closeKind ∷ []
+code (u8 i s e v) = u8Kind ∷ (head i s e ++ (v ∷ []))
+code (u16 i s e v) = u16Kind ∷ (head i s e ++ be16 v)
+code (u32 i s e v) = u32Kind ∷ (head i s e ++ be32 v)
+code (ip4 i s e a) = ip4Kind ∷ (head i s e ++ be32 a)
+code (ip6 i s e h l) = ip6Kind ∷ (head i s e ++ (be64 h ++ be64 l))
+code (bytes i s e) = bytesKind ∷ head i s e
 
 -- The bytes of entries, one after another.
 unfoldable pub encode : List Entry → List ℕ
@@ -88,26 +113,26 @@ pub data Step : Type 0 where
 -- The length of a kind's body.
 abbrev pub bodyLength : ℕ → Option ℕ
 bodyLength k =
-    cond (eqb k 1) (some 9)
-    (cond (eqb k 2) (some 0)
-    (cond (eqb k 3) (some 10)
-    (cond (eqb k 4) (some 11)
-    (cond (eqb k 5) (some 13)
-    (cond (eqb k 6) (some 13)
-    (cond (eqb k 7) (some 25)
-    (cond (eqb k 8) (some 9)
+    cond (eqb k openKind) (some 9)
+    (cond (eqb k closeKind) (some 0)
+    (cond (eqb k u8Kind) (some 10)
+    (cond (eqb k u16Kind) (some 11)
+    (cond (eqb k u32Kind) (some 13)
+    (cond (eqb k ip4Kind) (some 13)
+    (cond (eqb k ip6Kind) (some 25)
+    (cond (eqb k bytesKind) (some 9)
     none)))))))
 
 -- The entry of a kind whose body stands at q.
 abbrev pub entryAt : ℕ → List ℕ → ℕ → Entry
 entryAt k s q =
-    cond (eqb k 1) (opens (getD s q 0) (be32At s (q + 1)) (be32At s (q + 5)))
-    (cond (eqb k 2) closes
-    (cond (eqb k 3) (u8 (getD s q 0) (be32At s (q + 1)) (be32At s (q + 5)) (getD s (q + 9) 0))
-    (cond (eqb k 4) (u16 (getD s q 0) (be32At s (q + 1)) (be32At s (q + 5)) (be16At s (q + 9)))
-    (cond (eqb k 5) (u32 (getD s q 0) (be32At s (q + 1)) (be32At s (q + 5)) (be32At s (q + 9)))
-    (cond (eqb k 6) (ip4 (getD s q 0) (be32At s (q + 1)) (be32At s (q + 5)) (be32At s (q + 9)))
-    (cond (eqb k 7) (ip6 (getD s q 0) (be32At s (q + 1)) (be32At s (q + 5)) (be64At s (q + 9)) (be64At s (q + 17)))
+    cond (eqb k openKind) (opens (getD s q 0) (be32At s (q + 1)) (be32At s (q + 5)))
+    (cond (eqb k closeKind) closes
+    (cond (eqb k u8Kind) (u8 (getD s q 0) (be32At s (q + 1)) (be32At s (q + 5)) (getD s (q + 9) 0))
+    (cond (eqb k u16Kind) (u16 (getD s q 0) (be32At s (q + 1)) (be32At s (q + 5)) (be16At s (q + 9)))
+    (cond (eqb k u32Kind) (u32 (getD s q 0) (be32At s (q + 1)) (be32At s (q + 5)) (be32At s (q + 9)))
+    (cond (eqb k ip4Kind) (ip4 (getD s q 0) (be32At s (q + 1)) (be32At s (q + 5)) (be32At s (q + 9)))
+    (cond (eqb k ip6Kind) (ip6 (getD s q 0) (be32At s (q + 1)) (be32At s (q + 5)) (be64At s (q + 9)) (be64At s (q + 17)))
     (bytes (getD s q 0) (be32At s (q + 1)) (be32At s (q + 5)))))))))
 
 -- The step of the strip reader. 6: the place is beyond the strip's length; 7: no kind; 8: the body is cut by the end.

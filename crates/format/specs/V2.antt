@@ -33,9 +33,12 @@ linkFields b o p =
 unfoldable pub link : List ℕ → ℕ → Span → List Entry
 link b o s = container 96 (o + s .at) (o + s .at + s .len) (linkFields b o (s .at) ++ listingIfAny 69 (linkTos b o) o (s .at + 12) (linkTosSpans b (s .at)))
 
--- The links of a Router-LSA, under its own count.
+-- The links of a Router-LSA, from the first on, under its own count.
+abbrev pub firstLink : ℕ
+firstLink = 4
+
 abbrev pub links : List ℕ → List Span
-links b = cut linkRule b (be16At b 2) 4
+links b = cut linkRule b (be16At b 2) firstLink
 
 -- RFC 2328 A.4.2 and RFC 3101: the bits Nt, V, E and B.
 abbrev pub routerFlags : List ℕ → ℕ → List Entry
@@ -50,8 +53,8 @@ routerFlags b o =
 -- RFC 2328 A.4.2: flags, 0, # links, links.
 unfoldable pub routerLsa2 : List ℕ → ℕ → Body
 routerLsa2 b o =
-    cond (ltb (length b) 4) raw
-    (decoded (routerFlags b o ++ (u16At 15 b o 2 ∷ listing 16 (link b o) o 4 (links b))) (after 4 (links b)))
+    cond (ltb (length b) firstLink) raw
+    (decoded (routerFlags b o ++ (u16At 15 b o 2 ∷ listing 16 (link b o) o firstLink (links b))) (after firstLink (links b)))
 
 -- RFC 2328 A.4.3: Network Mask, Attached Routers.
 unfoldable pub networkLsa2 : List ℕ → ℕ → Body
@@ -121,9 +124,16 @@ body2 t u b o =
 abbrev pub bodyOf2 : List ℕ → ℕ → Body
 bodyOf2 d o = body2 (getD d 3 0) (getD d 4 0) (drop headerSize d) (o + headerSize)
 
+-- The ids of a raw body and of unparsed bytes.
+abbrev pub rawId2 : ℕ
+rawId2 = 23
+
+abbrev pub unparsedId2 : ℕ
+unparsedId2 = 25
+
 -- A whole LSA: header, body, and what is left. It depends on the LSA's bytes and its place alone.
 unfoldable pub lsaEntries2 : List ℕ → ℕ → List Entry
-lsaEntries2 d o = headerEntries2 d o ++ bodyEntries 23 25 (bodyOf2 d o) (drop headerSize d) (o + headerSize)
+lsaEntries2 d o = headerEntries2 d o ++ bodyEntries rawId2 unparsedId2 (bodyOf2 d o) (drop headerSize d) (o + headerSize)
 
 -- The bytes of an LSA that stay unparsed.
 unfoldable pub lsaTail2 : List ℕ → ℕ

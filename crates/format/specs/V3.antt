@@ -137,18 +137,24 @@ prefix m b o s = container 97 (o + s .at) (o + s .at + s .len) (
     (cond m (u16At 82 b o (s .at + 2) ∷ []) [] ++
     (ip6At 83 b o (s .at + 4) (s .len - 4) ∷ [])))
 
--- The prefixes of a Link-LSA and of an Intra-Area-Prefix-LSA, each under its own count.
+-- The prefixes of a Link-LSA and of an Intra-Area-Prefix-LSA, each from its first on, under its own count.
+abbrev pub firstLinkPrefix : ℕ
+firstLinkPrefix = 24
+
 abbrev pub linkPrefixes : List ℕ → List Span
-linkPrefixes b = cut prefixRule b (be32At b 20) 24
+linkPrefixes b = cut prefixRule b (be32At b 20) firstLinkPrefix
+
+abbrev pub firstAreaPrefix : ℕ
+firstAreaPrefix = 12
 
 abbrev pub areaPrefixes : List ℕ → List Span
-areaPrefixes b = cut prefixRule b (be16At b 0) 12
+areaPrefixes b = cut prefixRule b (be16At b 0) firstAreaPrefix
 
 -- RFC 5340 A.4.9: Rtr Priority, Options, Link-local Interface Address, # prefixes, prefixes without a metric.
 unfoldable pub linkLsa : List ℕ → ℕ → Body
 linkLsa b o =
-    cond (ltb (length b) 24) raw
-    (decoded (u8At 26 b o 0 ∷ options b o ∷ ip6At 27 b o 4 16 ∷ u32At 28 b o 20 ∷ listing 29 (prefix false b o) o 24 (linkPrefixes b)) (after 24 (linkPrefixes b)))
+    cond (ltb (length b) firstLinkPrefix) raw
+    (decoded (u8At 26 b o 0 ∷ options b o ∷ ip6At 27 b o 4 16 ∷ u32At 28 b o 20 ∷ listing 29 (prefix false b o) o firstLinkPrefix (linkPrefixes b)) (after firstLinkPrefix (linkPrefixes b)))
 
 -- RFC 5340 A.4.10: Referenced LS Type, Referenced Link State ID, Referenced Advertising Router.
 abbrev pub references : List ℕ → ℕ → List Entry
@@ -157,8 +163,8 @@ references b o = u16At 22 b o 2 ∷ u32At 25 b o 4 ∷ ip4At 30 b o 8 ∷ []
 -- RFC 5340 A.4.10: # Prefixes, references, prefixes with a metric.
 unfoldable pub intraAreaPrefixLsa : List ℕ → ℕ → Body
 intraAreaPrefixLsa b o =
-    cond (ltb (length b) 12) raw
-    (decoded (wide16At 28 b o 0 ∷ (references b o ++ listing 29 (prefix true b o) o 12 (areaPrefixes b))) (after 12 (areaPrefixes b)))
+    cond (ltb (length b) firstAreaPrefix) raw
+    (decoded (wide16At 28 b o 0 ∷ (references b o ++ listing 29 (prefix true b o) o firstAreaPrefix (areaPrefixes b))) (after firstAreaPrefix (areaPrefixes b)))
 
 -- A body of TLVs after a fixed part of n bytes that has these entries.
 unfoldable pub tlvLsa : ℕ → List Entry → List ℕ → ℕ → Body
@@ -195,9 +201,16 @@ functionCode d = be16At d 2 % 8192
 abbrev pub bodyOf3 : List ℕ → ℕ → Body
 bodyOf3 d o = body3 (functionCode d) (drop headerSize d) (o + headerSize)
 
+-- The ids of a raw body and of unparsed bytes.
+abbrev pub rawId3 : ℕ
+rawId3 = 31
+
+abbrev pub unparsedId3 : ℕ
+unparsedId3 = 33
+
 -- A whole LSA: header, body, and what is left. It depends on the LSA's bytes and its place alone.
 unfoldable pub lsaEntries3 : List ℕ → ℕ → List Entry
-lsaEntries3 d o = headerEntries3 d o ++ bodyEntries 31 33 (bodyOf3 d o) (drop headerSize d) (o + headerSize)
+lsaEntries3 d o = headerEntries3 d o ++ bodyEntries rawId3 unparsedId3 (bodyOf3 d o) (drop headerSize d) (o + headerSize)
 
 -- The bytes of an LSA that stay unparsed.
 unfoldable pub lsaTail3 : List ℕ → ℕ

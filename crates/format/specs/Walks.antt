@@ -10,8 +10,8 @@ use Rattle.format.specs.Strip.{Entry, encode, container}
 use Rattle.format.specs.Cut.{Span, cut, after, recordRule}
 use Rattle.format.specs.Header.{headerSize, headerEntries2, headerEntries3}
 use Rattle.format.specs.Body.{listing, whole, leftover}
-use Rattle.format.specs.V2.{lsaEntries2, lsaTail2}
-use Rattle.format.specs.V3.{lsaEntries3, lsaTail3}
+use Rattle.format.specs.V2.{lsaEntries2, lsaTail2, unparsedId2}
+use Rattle.format.specs.V3.{lsaEntries3, lsaTail3, unparsedId3}
 
 -- A choice on the version, 2 or 3.
 abbrev pub headerEntries : ℕ → List ℕ → ℕ → List Entry
@@ -24,7 +24,7 @@ abbrev pub lsaTail : ℕ → List ℕ → ℕ
 lsaTail v d = cond (eqb v 2) (lsaTail2 d) (lsaTail3 d)
 
 abbrev pub unparsedId : ℕ → ℕ
-unparsedId v = cond (eqb v 2) 25 33
+unparsedId v = cond (eqb v 2) unparsedId2 unparsedId3
 
 -- A header in a header list, and an LSA in an update, each as an object around its entries.
 unfoldable pub headerObject : ℕ → List ℕ → ℕ → Span → List Entry
@@ -41,8 +41,12 @@ outer v f d o p ss = listing 114 f o p ss ++ leftover (unparsedId v) d o (after 
 abbrev pub headers : List ℕ → List Span
 headers d = whole headerSize d 0
 
+-- The first LSA follows the number of LSAs (RFC 2328 A.3.5).
+abbrev pub firstLsa : ℕ
+firstLsa = 4
+
 abbrev pub lsas : List ℕ → ℕ → List Span
-lsas d count = cut recordRule d count 4
+lsas d count = cut recordRule d count firstLsa
 
 -- The limits of a call: data of 16 bits of length, and an offset that keeps every place within 32 bits.
 abbrev pub maxData : ℕ
@@ -77,7 +81,7 @@ unfoldable pub headersOf : ℕ → List ℕ → ℕ → Outcome
 headersOf v d o = unless (refusal v d o 0) (accepted (outer v (headerObject v d o) d o 0 (headers d)) (length (headers d)) (length d - after 0 (headers d)))
 
 unfoldable pub updateOf : ℕ → List ℕ → (count : ℕ) → ℕ → Outcome
-updateOf v d count o = unless (refusal v d o 4) (accepted (outer v (lsaObject v d o) d o 4 (lsas d count)) (length (lsas d count)) (length d - after 4 (lsas d count)))
+updateOf v d count o = unless (refusal v d o firstLsa) (accepted (outer v (lsaObject v d o) d o firstLsa (lsas d count)) (length (lsas d count)) (length d - after firstLsa (lsas d count)))
 
 unfoldable pub lsaOf : ℕ → List ℕ → ℕ → Outcome
 lsaOf v d o = unless (refusal v d o headerSize) (accepted (lsaEntries v d o) 1 (lsaTail v d))
