@@ -7,9 +7,11 @@ pub mod Rules
 pub mod CutInto
 pub mod Loop
 pub mod Lists
-pub mod Bounds
 pub mod FixedLoop
 pub mod Prefix
+pub mod Lengths
+pub mod Bounds
+pub mod Sizes
 pub mod Newness
 pub mod Newer
 pub mod Examples
