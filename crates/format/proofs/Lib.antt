@@ -19,6 +19,7 @@ pub mod Nested
 pub mod NestedLsa
 pub mod Shown
 pub mod Walks
+pub mod Host
 pub mod Refusals
 pub mod Steps
 pub mod Within

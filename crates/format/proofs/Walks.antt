@@ -29,13 +29,13 @@ use Rattle.format.proofs.Lists.{length-listing, whole-after}
 use Rattle.format.proofs.Wrote.{encode-append}
 
 -- An answer of 0 is that of an accepted outcome whose strip has room.
-record Taken (n : ℕ) (es : List Entry) (r t : ℕ) (before : List ℕ) : Type 0 where
-  not-refused : n ≡ 0
-  fits : length (encode es) ≤ length before
-  answered : answerOf (unless n (accepted es r t)) (length before) ≡ answer 0 (length (encode es)) r t
-  written : stripOf (unless n (accepted es r t)) before ≡ sets before 0 (encode es)
+pub record Taken (n : ℕ) (es : List Entry) (r t : ℕ) (before : List ℕ) : Type 0 where
+  pub not-refused : n ≡ 0
+  pub fits : length (encode es) ≤ length before
+  pub answered : answerOf (unless n (accepted es r t)) (length before) ≡ answer 0 (length (encode es)) r t
+  pub written : stripOf (unless n (accepted es r t)) before ≡ sets before 0 (encode es)
 
-taken : (n : ℕ) (es : List Entry) (r t : ℕ) (before : List ℕ) → answerOf (unless n (accepted es r t)) (length before) .number ≡ 0 → Taken n es r t before
+pub taken : (n : ℕ) (es : List Entry) (r t : ℕ) (before : List ℕ) → answerOf (unless n (accepted es r t)) (length before) .number ≡ 0 → Taken n es r t before
 unfolding unless answerOf stripOf
 taken n es r t before h = go (eqb n 0) refl (ltb (length before) (length (encode es))) refl h
   where

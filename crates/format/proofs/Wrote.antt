@@ -51,7 +51,7 @@ before {l₀} {l₁} {l₂} {a} {a₁} {a₂} {xs} {ys} v w = record {
   contents = w .contents ∙ rw (v .contents) (sets-sets l₀ a xs (a + length xs) ys (omega arith) ∙ sets-append l₀ a xs ys);
 }
 
-sets-front : (bs l : List ℕ) → length bs ≤ length l → sets l 0 bs ≡ bs ++ drop (length bs) l
+pub sets-front : (bs l : List ℕ) → length bs ≤ length l → sets l 0 bs ≡ bs ++ drop (length bs) l
 sets-front bs l h = rw zero-add at (sets-eq bs l 0 (omega arith))
 
 -- All of a buffer from a place on, lent by itself, has the room that the buffer has from there on.

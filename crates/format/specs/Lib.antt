@@ -14,4 +14,5 @@ pub mod Shown
 pub mod Part
 pub mod Refusals
 pub mod Newer
+pub mod Host
 pub mod Print
