@@ -11,6 +11,7 @@ pub mod FixedLoop
 pub mod Prefix
 pub mod Newness
 pub mod Examples
+pub mod Laid
 pub mod Nested
 pub mod NestedLsa
 pub mod Shown

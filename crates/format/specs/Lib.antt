@@ -10,5 +10,6 @@ pub mod V2
 pub mod V3
 pub mod Walks
 pub mod Shown
+pub mod Laid
 pub mod Part
 pub mod Print
