@@ -113,11 +113,11 @@ module _ {has : Entry → Bool} where
           rw (cut-some r b k p n e) (laid-append (widen (omega arith) (omega arith) (h p n e)) (widen (omega arith) (omega arith) (ih (p + n))))
 
   -- their array
-  module _ {lo hi : ℕ} (i : ℕ) (r : Rule) (b : List ℕ) (f : Span → List Entry) (o k p : ℕ) (t : (s e : ℕ) → has (opens i s e) ≡ true)
+  module _ {lo hi : ℕ} (i o p : ℕ) (f : Span → List Entry) (r : Rule) (b : List ℕ) (k : ℕ) (t : (s e : ℕ) → has (opens i s e) ≡ true)
       (from : lo ≤ o + p) (to : o + after p (cut r b k p) ≤ hi) (h : (q n : ℕ) → r b q ≡ some n → Laid has (o + q) (o + q + n) (f (span q n))) where
     pub laid-listing : Laid has lo hi (listing i f o p (cut r b k p))
     unfolding listing
-    laid-listing = let a = after-from (cut r b k p) p in laid-container i (o + p) (o + after p (cut r b k p)) (t _ _) from (omega arith) to (laid-cut r b f o h k p)
+    laid-listing = let a = after-from (cut r b k p) p in laid-container i _ _ (t _ _) from (omega arith) to (laid-cut r b f o h k p)
 
     pub laid-listing-if : Laid has lo hi (listingIfAny i f o p (cut r b k p))
     unfolding listingIfAny

@@ -12,6 +12,7 @@ pub mod Prefix
 pub mod Newness
 pub mod Examples
 pub mod Laid
+pub mod LaidLsa
 pub mod Nested
 pub mod NestedLsa
 pub mod Shown

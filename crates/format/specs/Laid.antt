@@ -1,8 +1,8 @@
 -- Entries that are laid out in a range: every entry's start and end lie in it, in order, and what is inside a container
 -- lies in the container's own range. So every place of a strip lies in the container around it and in the data.
-use Prim.Native.Nat.{ℕ, _≤_}
+use Prim.Native.Nat.{ℕ, _-_, _≤_, _<_}
 use mathlib.Core.Path.{_≡_}
-use mathlib.Core.Bool.{Bool, true}
+use mathlib.Core.Bool.{Bool, true, false}
 use mathlib.Core.List.{List, [], _∷_, _++_}
 use Rattle.format.specs.Strip.{Entry}
 use Rattle.format.specs.Strip.Entry.{opens, closes, u8, u16, u32, ip4, ip6, bytes}
@@ -47,3 +47,13 @@ only c r (u32 i s e v) = true
 only c r (ip4 i s e a) = true
 only c r (ip6 i s e h l) = true
 only c r (bytes i s e) = r i
+
+-- How the entries of an LSA end, and what its tail is. At most one entry is of kind 8: the last one, to the end of the
+-- range, which all others lie before. Where it is the unparsed bytes, the tail is its length; a raw body or a tlvs range,
+-- whose ids pass the test r, is no tail.
+pub data Ending (c r : ℕ → Bool) (unparsed lo hi : ℕ) (es : List Entry) (tail : ℕ) : Type 0 where
+  no-range : Laid (only c (λ i. false)) lo hi es → tail ≡ 0 → Ending c r unparsed lo hi es tail
+  leaves : (front : List Entry) (s : ℕ) → es ≡ front ++ (bytes unparsed s hi ∷ []) → Laid (only c (λ i. false)) lo s front
+      → lo ≤ s → s < hi → tail ≡ hi - s → Ending c r unparsed lo hi es tail
+  takes : (front : List Entry) (i s : ℕ) → r i ≡ true → es ≡ front ++ (bytes i s hi ∷ []) → Laid (only c (λ i. false)) lo s front
+      → lo ≤ s → s ≤ hi → tail ≡ 0 → Ending c r unparsed lo hi es tail

@@ -11,5 +11,6 @@ pub mod V3
 pub mod Walks
 pub mod Shown
 pub mod Laid
+pub mod Lists
 pub mod Part
 pub mod Print
