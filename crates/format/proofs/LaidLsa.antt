@@ -15,16 +15,16 @@ use Rattle.format.specs.Strip.Entry.{bytes}
 use Rattle.format.specs.Prefix.{octets, ip6At}
 use Rattle.format.specs.Cut.{Span, Rule, cut, after, standing, fixedRule, linkRule, prefixRule}
 use Rattle.format.specs.Header.{headerEntries2, headerEntries3, identityEntries2, identityEntries3, instanceEntries, opaqueEntries, isOpaque}
-use Rattle.format.specs.Body.{Body, listingIfAny, attachedRouter, whole}
+use Rattle.format.specs.Body.{Body, listing, listingIfAny, attachedRouter, whole}
 use Rattle.format.specs.Body.Body.{decoded, raw}
 use Rattle.format.specs.V2 as v2
 use Rattle.format.specs.V3 as v3
-use Rattle.format.specs.Laid.{Laid, only}
+use Rattle.format.specs.Laid.{start, end, Laid, only}
 use Rattle.format.specs.Laid.Laid.{none}
 use Rattle.format.specs.Lists.{among, from, opened2, opened3}
 use Rattle.format.proofs.Unique.{span}
 use Rattle.format.proofs.Rules.{inside}
-use Rattle.format.proofs.Laid.{cut-inside, fixed-length, fixed-end, after-from, widen, laid-fields, laid-append, laid-container, laid-cond, laid-listing, laid-listing-if}
+use Rattle.format.proofs.Laid.{allHave, AllIn, cut-inside, fixed-length, fixed-end, after-from, widen, laid-fields, laid-append, laid-container, laid-cond, laid-listing, laid-listing-if}
 
 -- What is inside a link of version 2, and inside a prefix of version 3.
 abbrev pub linkInside : List ℕ → ℕ → Span → List Entry
@@ -103,3 +103,194 @@ module _ {c r : ℕ → Bool} (b : List ℕ) (o : ℕ) where
   laid-link3 h p n e =
       let q = fixed-length 16 b p n e in
       laid-container _ _ _ h (omega arith) (omega arith) (omega arith) (laid-fields _ refl (omega arith))
+
+-- A body, b, at the place o: what is decoded lies before the place where it ends, which lies in the body, and has no kind 8
+-- entry but TLVs, which take the rest of the body. The second body is the same one at any other place: how much of it is
+-- decoded does not depend on where it stands.
+data BodyLaid (tlvs : ℕ) (b : List ℕ) (o : ℕ) (c : ℕ → Bool) : Body → Body → Type 0 where
+  is : {es es′ : List Entry} {n : ℕ} → n ≤ length b → Laid (only c (λ i. false)) o (o + n) es → BodyLaid tlvs b o c (decoded es n) (decoded es′ n)
+  is-tlvs : {es es′ : List Entry} (s : ℕ) → o ≤ s → s ≤ o + length b → Laid (only c (λ i. false)) o s es
+      → BodyLaid tlvs b o c (decoded (es ++ (bytes tlvs s (o + length b) ∷ [])) (length b)) (decoded es′ (length b))
+  is-raw : BodyLaid tlvs b o c raw raw
+
+-- A choice between two bodies, with their own containers or the same ones; and a body that is raw below a least length.
+module _ {tlvs : ℕ} {b : List ℕ} {o : ℕ} where
+  choice : (t : Bool) {f g : ℕ → Bool} {x x′ y y′ : Body} → BodyLaid tlvs b o f x x′ → BodyLaid tlvs b o g y y′
+      → BodyLaid tlvs b o (λ i. cond t (f i) (g i)) (cond t x y) (cond t x′ y′)
+  choice true m n = m
+  choice false m n = n
+
+  same : (t : Bool) {c : ℕ → Bool} {x x′ y y′ : Body} → BodyLaid tlvs b o c x x′ → BodyLaid tlvs b o c y y′ → BodyLaid tlvs b o c (cond t x y) (cond t x′ y′)
+  same true m n = m
+  same false m n = n
+
+  at-least : (n : ℕ) {c : ℕ → Bool} {x x′ : Body} → (n ≤ length b → BodyLaid tlvs b o c x x′)
+      → BodyLaid tlvs b o (λ i. cond (ltb (length b) n) false (c i)) (cond (ltb (length b) n) raw x) (cond (ltb (length b) n) raw x′)
+  at-least n {c} {x} {x′} h = go (ltb (length b) n) refl
+    where
+      go : (t : Bool) → ltb (length b) n ≡ t → BodyLaid tlvs b o (λ i. cond t false (c i)) (cond t raw x) (cond t raw x′)
+      go true e = is-raw
+      go false e = h (ltb-false (length b) n e)
+
+  -- a row of fields up to a place, and the array of a list from there on
+  module _ {c : ℕ → Bool} {es′ : List Entry} (fields : List Entry) (i p : ℕ) (f : Span → List Entry) (least : ℕ) (declared : Rule) (k : ℕ)
+      (t : allHave (only c (λ i. false)) fields ≡ true) (in-front : AllIn o (o + p) fields) (g : c i ≡ true) (h : p ≤ length b)
+      (items : (q n : ℕ) → standing least declared b q ≡ some n → Laid (only c (λ i. false)) (o + q) (o + q + n) (f (span q n))) where
+    is-listed : let ss = cut (standing least declared) b k p in BodyLaid tlvs b o c (decoded (fields ++ listing i f o p ss) (after p ss)) (decoded es′ (after p ss))
+    is-listed =
+        let a = after-from (cut (standing least declared) b k p) p in
+        is (cut-inside least declared b k p h)
+        (laid-append (widen (omega arith) (omega arith) (laid-fields fields t in-front)) (laid-listing i o p f (standing least declared) b k (λ s e. g) (omega arith) (omega arith) items))
+
+    is-listed-if : let ss = cut (standing least declared) b k p in BodyLaid tlvs b o c (decoded (fields ++ listingIfAny i f o p ss) (after p ss)) (decoded es′ (after p ss))
+    is-listed-if =
+        let a = after-from (cut (standing least declared) b k p) p in
+        is (cut-inside least declared b k p h)
+        (laid-append (widen (omega arith) (omega arith) (laid-fields fields t in-front)) (laid-listing-if i o p f (standing least declared) b k (λ s e. g) (omega arith) (omega arith) items))
+
+  raw-below : (n : ℕ) {c : ℕ → Bool} {x x′ : Body} → (n ≤ length b → BodyLaid tlvs b o c x x′) → BodyLaid tlvs b o c (cond (ltb (length b) n) raw x) (cond (ltb (length b) n) raw x′)
+  raw-below n {c} {x} {x′} h = go (ltb (length b) n) refl
+    where
+      go : (t : Bool) → ltb (length b) n ≡ t → BodyLaid tlvs b o c (cond t raw x) (cond t raw x′)
+      go true e = is-raw
+      go false e = h (ltb-false (length b) n e)
+
+-- The bodies of version 2, at the places o and q.
+module _ (b : List ℕ) (o q : ℕ) where
+  abbrev Laid2 : (ℕ → Bool) → (List ℕ → ℕ → Body) → Type 0
+  Laid2 c f = BodyLaid 24 b o c (f b o) (f b q)
+
+  router2 : Laid2 (from 4 (length b) (16 ∷ 96 ∷ 69 ∷ 97 ∷ [])) v2.routerLsa2
+  unfolding v2.routerLsa2
+  router2 = at-least _ (λ h. is-listed (v2.routerFlags b o ++ (u16At 15 b o 2 ∷ [])) _ _ _ _ _ _ refl (omega arith) refl h (laid-link2 b o refl refl refl))
+
+  network2 : Laid2 (from 4 (length b) (18 ∷ [])) v2.networkLsa2
+  unfolding v2.networkLsa2 whole
+  network2 = at-least _ (λ h. is-listed (ip4At 17 b o 0 ∷ []) _ _ _ _ _ _ refl (omega arith) refl h (laid-attached b o))
+
+  summary : Laid2 (from 8 (length b) (20 ∷ 97 ∷ [])) v2.summaryLsa
+  unfolding v2.summaryLsa whole
+  summary = at-least _ (λ h. is-listed-if (ip4At 17 b o 0 ∷ metric24At 19 b o 5 ∷ []) _ _ _ _ _ _ refl (omega arith) refl h (laid-summary-tos b o refl))
+
+  external2 : Laid2 (from 16 (length b) (20 ∷ 97 ∷ [])) v2.externalLsa2
+  unfolding v2.externalLsa2 whole
+  external2 = at-least _ (λ h. is-listed-if (v2.externalFields b o) _ _ _ _ _ _ refl (omega arith) refl h (laid-external-tos b o refl))
+
+  opaque : {c : ℕ → Bool} (u : ℕ) → Laid2 c (v2.opaqueLsa u)
+  unfolding v2.opaqueLsa
+  opaque u = same (v2.opaqueHasTlvs u) (is-tlvs {es = []} o (omega arith) (omega arith) none) is-raw
+
+  laid-body2 : (t u : ℕ) → Laid2 (opened2 t (length b)) (v2.body2 t u)
+  unfolding v2.body2
+  laid-body2 t u =
+      choice (eqb t 1) router2
+      (choice (eqb t 2) network2
+      (choice (eqb t 3) summary
+      (choice (eqb t 4) summary
+      (choice (eqb t 5) external2
+      (choice (eqb t 7) external2
+      (same (eqb t 9) (opaque u)
+      (same (eqb t 10) (opaque u)
+      (same (eqb t 11) (opaque u) is-raw))))))))
+
+-- The octets of a prefix that fits lie in the body.
+prefix-fits : (b : List ℕ) (l p n : ℕ) → v3.prefixFits b l p ≡ some n → p + n ≤ length b
+unfolding v3.prefixFits
+prefix-fits b l p n e = go (octets l) e
+  where
+    fits : (m : ℕ) (t : Bool) → leb (p + m) (length b) ≡ t → cond t (some m) nothing ≡ some n → p + n ≤ length b
+    fits m true h q = let z : m ≡ n = cc in omega (arith, leb-true (p + m) (length b) h)
+    fits m false h q = let z : _≡_ {A = ℕ} 0 1 = cc in absurd (omega arith)
+
+    go : (x : Option ℕ) → elim x [ nothing ↦ nothing | some m ↦ cond (leb (p + m) (length b)) (some m) nothing ] ≡ some n → p + n ≤ length b
+    go nothing q = let z : _≡_ {A = ℕ} 0 1 = cc in absurd (omega arith)
+    go (some m) q = fits m (leb (p + m) (length b)) refl q
+
+-- The bodies of version 3.
+module _ (b : List ℕ) (o q : ℕ) where
+  abbrev Laid3 : (ℕ → Bool) → (List ℕ → ℕ → Body) → Type 0
+  Laid3 c f = BodyLaid 32 b o c (f b o) (f b q)
+
+  router3 : Laid3 (from 4 (length b) (15 ∷ 96 ∷ [])) v3.routerLsa3
+  unfolding v3.routerLsa3 whole
+  router3 = at-least _ (λ h. is-listed (v3.routerFlags b o ++ (v3.options b o ∷ [])) _ _ _ _ _ _ refl (omega arith) refl h (laid-link3 b o refl))
+
+  network3 : Laid3 (from 4 (length b) (16 ∷ [])) v3.networkLsa3
+  unfolding v3.networkLsa3 whole
+  network3 = at-least _ (λ h. is-listed (v3.options b o ∷ []) _ _ _ _ _ _ refl (omega arith) refl h (laid-attached b o))
+
+  inter-area-prefix : {c : ℕ → Bool} → Laid3 c v3.interAreaPrefixLsa
+  unfolding v3.interAreaPrefixLsa
+  inter-area-prefix {c} = go (v3.prefixFits b (getD b 4 0) 8) refl
+    where
+      fields : ℕ → ℕ → List Entry
+      fields p n = metric24At 17 b p 1 ∷ u8At 18 b p 4 ∷ u8At 19 b p 5 ∷ ip6At 20 b p 8 n ∷ []
+
+      go : (x : Option ℕ) → v3.prefixFits b (getD b 4 0) 8 ≡ x → BodyLaid 32 b o c (elim x [ nothing ↦ raw | some n ↦ decoded (fields o n) (8 + n) ]) (elim x [ nothing ↦ raw | some n ↦ decoded (fields q n) (8 + n) ])
+      go nothing e = is-raw
+      go (some n) e = is (prefix-fits b (getD b 4 0) 8 n e) (laid-fields (fields o n) refl (omega arith))
+
+  inter-area-router : {c : ℕ → Bool} → Laid3 c v3.interAreaRouterLsa
+  unfolding v3.interAreaRouterLsa
+  inter-area-router = raw-below _ (λ h. is h (laid-fields _ refl (omega arith)))
+
+  link-lsa : Laid3 (from 24 (length b) (29 ∷ 97 ∷ [])) v3.linkLsa
+  unfolding v3.linkLsa
+  link-lsa = at-least _ (λ h. is-listed (u8At 26 b o 0 ∷ v3.options b o ∷ ip6At 27 b o 4 16 ∷ u32At 28 b o 20 ∷ []) _ _ _ _ _ _ refl (omega arith) refl h (laid-prefix b o refl false))
+
+  intra-area-prefix : Laid3 (from 12 (length b) (29 ∷ 97 ∷ [])) v3.intraAreaPrefixLsa
+  unfolding v3.intraAreaPrefixLsa
+  intra-area-prefix = at-least _ (λ h. is-listed (wide16At 28 b o 0 ∷ v3.references b o) _ _ _ _ _ _ refl (omega arith) refl h (laid-prefix b o refl true))
+
+  tlv-lsa : {c : ℕ → Bool} (n : ℕ) (es es′ : List Entry) → allHave (only c (λ i. false)) es ≡ true → AllIn o (o + n) es → BodyLaid 32 b o c (v3.tlvLsa n es b o) (v3.tlvLsa n es′ b q)
+  unfolding v3.tlvLsa
+  tlv-lsa n es es′ t l = raw-below _ (λ h. is-tlvs (o + n) (omega arith) (omega arith) (laid-fields es t l))
+
+  external3 : {c : ℕ → Bool} → Laid3 c v3.externalLsa3
+  unfolding v3.externalLsa3
+  external3 {c} = go (v3.prefixFits b (getD b 4 0) 8)
+    where
+      fields : ℕ → ℕ → List Entry
+      fields p n = v3.externalFlags b p ++ (v3.externalPrefix b p n ++ v3.externalOptional b p n)
+
+      -- a field of n bytes that is there where the test says so
+      optional : (t : Bool) (x : Entry) (p n : ℕ) → allHave (only c (λ i. false)) (x ∷ []) ≡ true → start x ≡ o + p → end x ≡ o + p + n → (hi : ℕ) → p + cond t n 0 ≤ hi
+          → Laid (only c (λ i. false)) o (o + hi) (cond t (x ∷ []) [])
+      optional true x p n h s e hi l = laid-fields (x ∷ []) h (omega arith)
+      optional false x p n h s e hi l = none
+
+      laid : (n : ℕ) → Laid (only c (λ i. false)) o (o + v3.externalEnd b n) (fields o n)
+      laid n =
+          laid-append (laid-fields (v3.externalFlags b o) refl (omega arith))
+          (laid-append (laid-fields (v3.externalPrefix b o n) refl (omega arith))
+          (laid-append (optional (v3.hasForwarding b) (ip6At 23 b o (v3.forwardingPlace n) 16) (v3.forwardingPlace n) 16 refl refl refl (v3.externalEnd b n) (omega arith))
+          (laid-append (optional (v3.hasTag b) (u32At 24 b o (v3.tagPlace b n)) (v3.tagPlace b n) 4 refl refl refl (v3.externalEnd b n) (omega arith))
+          (optional (v3.hasReference b) (u32At 25 b o (v3.referencePlace b n)) (v3.referencePlace b n) 4 refl refl refl (v3.externalEnd b n) (omega arith)))))
+
+      go : (x : Option ℕ) → BodyLaid 32 b o c
+          (elim x [ nothing ↦ raw | some n ↦ cond (ltb (length b) (v3.externalEnd b n)) raw (decoded (fields o n) (v3.externalEnd b n)) ])
+          (elim x [ nothing ↦ raw | some n ↦ cond (ltb (length b) (v3.externalEnd b n)) raw (decoded (fields q n) (v3.externalEnd b n)) ])
+      go nothing = is-raw
+      go (some n) = raw-below (v3.externalEnd b n) (λ h. is h (laid n))
+
+  laid-body3 : (f : ℕ) → Laid3 (opened3 f (length b)) (v3.body3 f)
+  unfolding v3.body3
+  laid-body3 f =
+      choice (eqb f 1) router3
+      (choice (eqb f 2) network3
+      (same (eqb f 3) inter-area-prefix
+      (same (eqb f 4) inter-area-router
+      (same (eqb f 5) external3
+      (same (eqb f 7) external3
+      (choice (eqb f 8) link-lsa
+      (choice (eqb f 9) intra-area-prefix
+      (same (eqb f 12) (tlv-lsa 0 [] [] refl (omega arith))
+      (same (eqb f 33) (tlv-lsa 4 (v3.routerFlags b o ++ (v3.options b o ∷ [])) _ refl (omega arith))
+      (same (eqb f 34) (tlv-lsa 4 (v3.options b o ∷ []) _ refl (omega arith))
+      (same (eqb f 35) (tlv-lsa 0 [] [] refl (omega arith))
+      (same (eqb f 36) (tlv-lsa 0 [] [] refl (omega arith))
+      (same (eqb f 37) (tlv-lsa 0 [] [] refl (omega arith))
+      (same (eqb f 39) (tlv-lsa 0 [] [] refl (omega arith))
+      (same (eqb f 40) (tlv-lsa 4 (u8At 26 b o 0 ∷ v3.options b o ∷ []) _ refl (omega arith))
+      (same (eqb f 41) (tlv-lsa 12 (v3.references b o) _ refl (omega arith))
+      (same (eqb f 42) (tlv-lsa 0 [] [] refl (omega arith)) is-raw)))))))))))))))))
