@@ -1,27 +1,29 @@
 -- The one walk over all bodies of both versions: where the entries of every LSA lie, which containers and kind 8 entries
 -- they have, and how they end.
-use Prim.Native.Nat.{ℕ, _+_, _-_, _*_, _≤_, _<_}
+use Prim.Native.Nat.{ℕ, _+_, _-_, _*_, _%_, _≤_, _<_}
 use native.Mathlib.Omega.{arith}
-use mathlib.Core.Path.{_≡_, refl}
+use mathlib.Core.Path.{_≡_, refl, sym, ap, _∙_}
 use mathlib.Core.Bool.{Bool, true, false, cond}
-use mathlib.Core.List.{List, [], _∷_, _++_}
+use mathlib.Core.List.{List, [], _∷_, _++_, append-nil, append-assoc}
 use mathlib.Core.Option.{Option, none as nothing, some}
 use lib.ListN.{length, getD, drop}
 use lib.Dec.{ltb, leb, eqb}
-use borrow.Author.Tests.{ltb-false, leb-true}
+use borrow.Author.Tests.{ltb-true, ltb-false, leb-true, le-ltb}
 use Rattle.format.specs.Bytes.{be16At}
 use Rattle.format.specs.Strip.{Entry, container, u8At, bitAt, lowBitsAt, u16At, wide16At, metric24At, u32At, ip4At}
 use Rattle.format.specs.Strip.Entry.{bytes}
 use Rattle.format.specs.Prefix.{octets, ip6At}
 use Rattle.format.specs.Cut.{Span, Rule, cut, after, standing, fixedRule, linkRule, prefixRule}
 use Rattle.format.specs.Header.{headerEntries2, headerEntries3, identityEntries2, identityEntries3, instanceEntries, opaqueEntries, isOpaque}
-use Rattle.format.specs.Body.{Body, listing, listingIfAny, attachedRouter, whole}
+use Rattle.format.specs.Body.{Body, listing, listingIfAny, attachedRouter, whole, leftover, bodyEntries, bodyTail}
 use Rattle.format.specs.Body.Body.{decoded, raw}
 use Rattle.format.specs.V2 as v2
 use Rattle.format.specs.V3 as v3
-use Rattle.format.specs.Laid.{start, end, Laid, only}
+use Rattle.format.specs.Walks.{lsaEntries, lsaTail}
+use Rattle.format.specs.Laid.{start, end, Laid, only, Ending}
 use Rattle.format.specs.Laid.Laid.{none}
-use Rattle.format.specs.Lists.{among, from, opened2, opened3}
+use Rattle.format.specs.Laid.Ending.{no-range, leaves, takes}
+use Rattle.format.specs.Lists.{among, from, opened2, opened3, opened, wholeIds, unparsed}
 use Rattle.format.proofs.Unique.{span}
 use Rattle.format.proofs.Rules.{inside}
 use Rattle.format.proofs.Laid.{allHave, AllIn, cut-inside, fixed-length, fixed-end, after-from, widen, laid-fields, laid-append, laid-container, laid-cond, laid-listing, laid-listing-if}
@@ -294,3 +296,41 @@ module _ (b : List ℕ) (o q : ℕ) where
       (same (eqb f 40) (tlv-lsa 4 (u8At 26 b o 0 ∷ v3.options b o ∷ []) _ refl (omega arith))
       (same (eqb f 41) (tlv-lsa 12 (v3.references b o) _ refl (omega arith))
       (same (eqb f 42) (tlv-lsa 0 [] [] refl (omega arith)) is-raw)))))))))))))))))
+
+-- A body's entries with what is left of it, and its tail.
+body-ends : {tlvs : ℕ} {b : List ℕ} {o : ℕ} {c : ℕ → Bool} {x x′ : Body} (w : ℕ → Bool) (r u : ℕ) → w tlvs ≡ true → w r ≡ true → BodyLaid tlvs b o c x x′
+    → Ending c w u o (o + length b) (bodyEntries r u x b o) (bodyTail x′ b)
+unfolding bodyEntries bodyTail leftover
+body-ends {b = b} {o = o} {c = c} w r u h k (is {es = es} {n = n} i l) = go (ltb n (length b)) refl
+  where
+    go : (t : Bool) → ltb n (length b) ≡ t → Ending c w u o (o + length b) (es ++ cond t (bytes u (o + n) (o + length b) ∷ []) []) (length b - n)
+    go true e = let a = ltb-true n (length b) e in leaves es (o + n) refl l (omega arith) (omega arith) (omega arith)
+    go false e = let a = ltb-false n (length b) e in no-range (rw append-nil (widen (omega arith) (omega arith) l)) (omega arith)
+body-ends {tlvs} {b} {o} {c} w r u h k (is-tlvs {es = es} s f t l) = rw (le-ltb (length b) (length b) (omega arith), append-nil) (takes es tlvs s h refl l f t (omega arith))
+body-ends {b = b} {o = o} {c = c} w r u h k is-raw = go (ltb 0 (length b))
+  where
+    go : (t : Bool) → Ending c w u o (o + length b) (cond t (bytes r (o + 0) (o + length b) ∷ []) []) 0
+    go true = takes [] r (o + 0) k refl none (omega arith) (omega arith) refl
+    go false = no-range none refl
+
+-- The same after entries that lie before it and have no kind 8 entry.
+after-front : {c w : ℕ → Bool} {u lo mid hi tail : ℕ} {front es : List Entry} → Laid (only c (λ i. false)) lo mid front → lo ≤ mid → mid ≤ hi
+    → Ending c w u mid hi es tail → Ending c w u lo hi (front ++ es) tail
+after-front l a b (no-range m t) = no-range (laid-append (widen (omega arith) b l) (widen a (omega arith) m)) t
+after-front {front = front} l a b (leaves es s e m f g t) =
+    leaves (front ++ es) s (ap (λ (x : List Entry). front ++ x) e ∙ sym (append-assoc front es _)) (laid-append (widen (omega arith) f l) (widen a (omega arith) m)) (omega arith) g t
+after-front {front = front} l a b (takes es i s k e m f g t) =
+    takes (front ++ es) i s k (ap (λ (x : List Entry). front ++ x) e ∙ sym (append-assoc front es _)) (laid-append (widen (omega arith) f l) (widen a (omega arith) m)) (omega arith) g t
+
+-- How the entries of any LSA end, whatever its length; and what they are laid out in.
+pub lsa-ends : (v : ℕ) (d : List ℕ) (o : ℕ) → Ending (opened v d) (wholeIds v) (unparsed v) o (o + 20 + length (drop 20 d)) (lsaEntries v d o) (lsaTail v d)
+unfolding v2.lsaEntries2 v2.lsaTail2 v3.lsaEntries3 v3.lsaTail3
+lsa-ends v d o = go (eqb v 2)
+  where
+    b : List ℕ
+    b = drop 20 d
+
+    go : (t : Bool) → Ending (λ i. cond t (opened2 (getD d 3 0) (length b) i) (opened3 (be16At d 2 % 8192) (length b) i)) (λ i. cond t (among (23 ∷ 24 ∷ []) i) (among (31 ∷ 32 ∷ []) i)) (cond t 25 33)
+        o (o + 20 + length b) (cond t (v2.lsaEntries2 d o) (v3.lsaEntries3 d o)) (cond t (v2.lsaTail2 d) (v3.lsaTail3 d))
+    go true = after-front (laid-header2 d o) (omega arith) (omega arith) (body-ends _ 23 25 refl refl (laid-body2 b (o + 20) 20 (getD d 3 0) (getD d 4 0)))
+    go false = after-front (laid-header3 d o) (omega arith) (omega arith) (body-ends _ 31 33 refl refl (laid-body3 b (o + 20) 20 (be16At d 2 % 8192)))

@@ -52,3 +52,7 @@ wholeIds v i = cond (eqb v 2) (among (23 ∷ 24 ∷ []) i) (among (31 ∷ 32 ∷
 
 abbrev pub unparsed : (version : ℕ) → ℕ
 unparsed v = cond (eqb v 2) 25 33
+
+-- The entries in an LSA: its containers, the three kind 8 entries, and fields with a value.
+abbrev pub holds : (version : ℕ) → List ℕ → Entry → Bool
+holds v d = only (opened v d) (λ i. cond (eqb i (unparsed v)) true (wholeIds v i))
