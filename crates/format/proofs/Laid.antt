@@ -9,15 +9,15 @@ use mathlib.Core.Bool.{Bool, true, false, cond}
 use mathlib.Core.List.{List, [], _∷_, _++_, flatMap, append-assoc, List·Memᴰ, List·Memᴰ·not-nil, List·Memᴰ·cases-cons, List·Memᴰ·append-cases}
 use mathlib.Core.Option.{Option, none as nothing, some}
 use lib.ListN.{length}
-use lib.Dec.{ltb}
-use borrow.Author.Tests.{ltb-true}
+use lib.Dec.{ltb, eqb}
+use borrow.Author.Tests.{ltb-true, eqb-true}
 use Rattle.format.specs.Strip.{Entry, container}
-use Rattle.format.specs.Strip.Entry.{opens, closes, bytes}
+use Rattle.format.specs.Strip.Entry.{opens, closes, u8, u16, u32, ip4, ip6, bytes}
 use Rattle.format.specs.Cut.{Span, Rule, cut, after, standing, fixedRule}
 use Rattle.format.specs.Body.{listing, listingIfAny, leftover}
 use Rattle.format.specs.Shown.{isField, Nested}
 use Rattle.format.specs.Shown.Nested.{none as nested-none, field as nested-field, group as nested-group}
-use Rattle.format.specs.Laid.{start, end, Laid}
+use Rattle.format.specs.Laid.{start, end, Laid, among, only}
 use Rattle.format.specs.Laid.Laid.{none, field, group}
 use Rattle.format.proofs.Unique.{span, cut-none, cut-some}
 use Rattle.format.proofs.Rules.{inside}
@@ -72,6 +72,17 @@ pub weaken : {has has′ : Entry → Bool} {lo hi : ℕ} {es : List Entry} → (
 weaken w none = none
 weaken w (field {x = x} f t a b c l) = field f (w x t) a b c (weaken w l)
 weaken w (group i s e t a b c m l) = group i s e (w (opens i s e) t) a b c (weaken w m) (weaken w l)
+
+-- A test of ids asks no more where it passes all that another does.
+pub only-more : (c c′ r r′ : List ℕ) → ((i : ℕ) → among c i ≡ true → among c′ i ≡ true) → ((i : ℕ) → among r i ≡ true → among r′ i ≡ true) → (x : Entry) → only c r x ≡ true → only c′ r′ x ≡ true
+only-more c c′ r r′ f g (opens i s e) h = f i h
+only-more c c′ r r′ f g closes h = h
+only-more c c′ r r′ f g (u8 i s e v) h = h
+only-more c c′ r r′ f g (u16 i s e v) h = h
+only-more c c′ r r′ f g (u32 i s e v) h = h
+only-more c c′ r r′ f g (ip4 i s e a) h = h
+only-more c c′ r r′ f g (ip6 i s e x l) h = h
+only-more c c′ r r′ f g (bytes i s e) h = g i h
 
 module _ {has : Entry → Bool} where
   pub laid-fields : {lo hi : ℕ} (es : List Entry) → allHave has es ≡ true → AllIn lo hi es → Laid has lo hi es
@@ -155,8 +166,23 @@ laid-member {has} {lo} {hi} x n (group {inside = within} {es = es} i s e t a b c
     ⊎-elim {C = Lying has lo hi x} (λ m. further a c (laid-member x n k m)) (λ m.
     ⊎-elim {C = Lying has lo hi x} (λ q. absurd (n q)) (λ m. laid-member x n l m) (List·Memᴰ·cases-cons m)) (List·Memᴰ·append-cases within m)) (List·Memᴰ·cases-cons m)
 
--- What is laid out is well nested.
-pub laid-nested : {has : Entry → Bool} {ok : ℕ → Bool} {lo hi : ℕ} {es : List Entry} → ((i s e : ℕ) → has (opens i s e) ≡ true → ok i ≡ true) → Laid has lo hi es → Nested ok es
-laid-nested w none = nested-none
-laid-nested w (field f t a b c l) = nested-field f (laid-nested w l)
-laid-nested w (group i s e t a b c k l) = nested-group i s e (w i s e t) (laid-nested w k) (laid-nested w l)
+-- Whether all ids of a list pass a test; then each one of them does.
+abbrev pub all : (ℕ → Bool) → List ℕ → Bool
+all ok [] = true
+all ok (x ∷ xs) = cond (ok x) (all ok xs) false
+
+all-among : (ok : ℕ → Bool) (ids : List ℕ) (i : ℕ) → all ok ids ≡ true → among ids i ≡ true → ok i ≡ true
+all-among ok [] i h k = let z : _≡_ {A = ℕ} 0 1 = cc in absurd (omega arith)
+all-among ok (x ∷ xs) i h k = go (eqb i x) refl (ok x) refl h k (all-among ok xs i)
+  where
+    go : (s : Bool) → eqb i x ≡ s → (t : Bool) → ok x ≡ t → cond t (all ok xs) false ≡ true → cond s true (among xs i) ≡ true → (all ok xs ≡ true → among xs i ≡ true → ok i ≡ true) → ok i ≡ true
+    go true e true f h k ih = rw (eqb-true i x e) f
+    go false e true f h k ih = ih h k
+    go true e false f h k ih = let z : _≡_ {A = ℕ} 0 1 = cc in absurd (omega arith)
+    go false e false f h k ih = let z : _≡_ {A = ℕ} 0 1 = cc in absurd (omega arith)
+
+-- What is laid out is well nested, by any test that the ids of its containers pass.
+pub laid-nested : (c r : List ℕ) {ok : ℕ → Bool} {lo hi : ℕ} {es : List Entry} → all ok c ≡ true → Laid (only c r) lo hi es → Nested ok es
+laid-nested c r h none = nested-none
+laid-nested c r h (field f t a b d l) = nested-field f (laid-nested c r h l)
+laid-nested c r {ok} h (group i s e t a b d k l) = nested-group i s e (all-among ok c i h t) (laid-nested c r h k) (laid-nested c r h l)

@@ -6,9 +6,9 @@ use mathlib.Core.Path.{_≡_, refl, sym, ap, _∙_}
 use mathlib.Core.Bool.{Bool, true, false, cond}
 use mathlib.Core.List.{List, [], _∷_, _++_, append-nil, append-assoc}
 use mathlib.Core.Option.{Option, none as nothing, some}
-use lib.ListN.{length, getD, drop}
+use lib.ListN.{length, getD, drop, length-drop}
 use lib.Dec.{ltb, leb, eqb}
-use borrow.Author.Tests.{ltb-true, ltb-false, leb-true, le-ltb}
+use borrow.Author.Tests.{ltb-true, ltb-false, leb-true, le-ltb, eq-eqb}
 use Rattle.format.specs.Bytes.{be16At}
 use Rattle.format.specs.Strip.{Entry, container, u8At, bitAt, lowBitsAt, u16At, wide16At, metric24At, u32At, ip4At}
 use Rattle.format.specs.Strip.Entry.{bytes}
@@ -20,13 +20,13 @@ use Rattle.format.specs.Body.Body.{decoded, raw}
 use Rattle.format.specs.V2 as v2
 use Rattle.format.specs.V3 as v3
 use Rattle.format.specs.Walks.{lsaEntries, lsaTail}
-use Rattle.format.specs.Laid.{start, end, Laid, only, Ending}
+use Rattle.format.specs.Laid.{start, end, Laid, among, only, Ending}
 use Rattle.format.specs.Laid.Laid.{none}
 use Rattle.format.specs.Laid.Ending.{no-range, leaves, takes}
-use Rattle.format.specs.Lists.{among, from, opened2, opened3, opened, wholeIds, unparsed}
+use Rattle.format.specs.Lists.{from, containers2, containers3, containers, taken, unparsed, holds}
 use Rattle.format.proofs.Unique.{span}
 use Rattle.format.proofs.Rules.{inside}
-use Rattle.format.proofs.Laid.{allHave, AllIn, cut-inside, fixed-length, fixed-end, after-from, widen, laid-fields, laid-append, laid-container, laid-cond, laid-listing, laid-listing-if}
+use Rattle.format.proofs.Laid.{allHave, AllIn, cut-inside, fixed-length, fixed-end, after-from, widen, laid-fields, laid-append, laid-container, laid-cond, laid-listing, laid-listing-if, weaken, only-more}
 
 -- What is inside a link of version 2, and inside a prefix of version 3.
 abbrev pub linkInside : List ℕ → ℕ → Span → List Entry
@@ -37,7 +37,7 @@ prefixInside m b o s =
     u8At 80 b o (s .at) ∷ u8At 81 b o (s .at + 1) ∷ (cond m (u16At 82 b o (s .at + 2) ∷ []) [] ++ (ip6At 83 b o (s .at + 4) (s .len - 4) ∷ []))
 
 -- Headers, and the items of lists, by the containers c and the ranges r that are allowed.
-module _ {c r : ℕ → Bool} (b : List ℕ) (o : ℕ) where
+module _ {c r : List ℕ} (b : List ℕ) (o : ℕ) where
   pub laid-header2 : Laid (only c r) o (o + 20) (headerEntries2 b o)
   unfolding headerEntries2
   laid-header2 =
@@ -59,7 +59,7 @@ module _ {c r : ℕ → Bool} (b : List ℕ) (o : ℕ) where
       (laid-append (laid-cond m {xs = u16At 82 b o (s .at + 2) ∷ []} (laid-fields _ refl (omega arith)) none)
       (laid-fields _ refl (omega arith)))
 
-  module _ (h : c 97 ≡ true) where
+  module _ (h : among c 97 ≡ true) where
     laid-link-tos : (p n : ℕ) → fixedRule 4 b p ≡ some n → Laid (only c r) (o + p) (o + p + n) (v2.linkTos b o (span p n))
     unfolding v2.linkTos
     laid-link-tos p n e =
@@ -79,14 +79,14 @@ module _ {c r : ℕ → Bool} (b : List ℕ) (o : ℕ) where
         laid-container _ _ _ h (omega arith) (omega arith) (omega arith) (laid-fields _ refl (omega arith))
 
     -- a link up to the end of its TOS metrics, whether or not it stands in the body
-    pub laid-link-inside : c 69 ≡ true → (s : Span) → Laid (only c r) (o + s .at) (o + after (s .at + 12) (v2.linkTosSpans b (s .at))) (linkInside b o s)
+    pub laid-link-inside : among c 69 ≡ true → (s : Span) → Laid (only c r) (o + s .at) (o + after (s .at + 12) (v2.linkTosSpans b (s .at))) (linkInside b o s)
     laid-link-inside k s =
         let a = after-from (v2.linkTosSpans b (s .at)) (s .at + 12) in
         laid-append (laid-fields (v2.linkFields b o (s .at)) refl (omega arith))
         (laid-listing-if _ _ _ _ _ _ _ (λ t e. k) (omega arith) (omega arith) laid-link-tos)
 
     -- a link that stands has room for its TOS metrics
-    laid-link2 : c 69 ≡ true → c 96 ≡ true → (p n : ℕ) → linkRule b p ≡ some n → Laid (only c r) (o + p) (o + p + n) (v2.link b o (span p n))
+    laid-link2 : among c 69 ≡ true → among c 96 ≡ true → (p n : ℕ) → linkRule b p ≡ some n → Laid (only c r) (o + p) (o + p + n) (v2.link b o (span p n))
     unfolding v2.link
     laid-link2 k l p n e =
         let d = inside 12 _ b p n e .length-declared in
@@ -100,7 +100,7 @@ module _ {c r : ℕ → Bool} (b : List ℕ) (o : ℕ) where
         let l = inside 4 _ b p n e .enough in
         laid-container _ _ _ h (omega arith) (omega arith) (omega arith) (widen (omega arith) (omega arith) (laid-prefix-inside m (span p n)))
 
-  laid-link3 : c 96 ≡ true → (p n : ℕ) → fixedRule 16 b p ≡ some n → Laid (only c r) (o + p) (o + p + n) (v3.link b o (span p n))
+  laid-link3 : among c 96 ≡ true → (p n : ℕ) → fixedRule 16 b p ≡ some n → Laid (only c r) (o + p) (o + p + n) (v3.link b o (span p n))
   unfolding v3.link
   laid-link3 h p n e =
       let q = fixed-length 16 b p n e in
@@ -109,35 +109,35 @@ module _ {c r : ℕ → Bool} (b : List ℕ) (o : ℕ) where
 -- A body, b, at the place o: what is decoded lies before the place where it ends, which lies in the body, and has no kind 8
 -- entry but TLVs, which take the rest of the body. The second body is the same one at any other place: how much of it is
 -- decoded does not depend on where it stands.
-data BodyLaid (tlvs : ℕ) (b : List ℕ) (o : ℕ) (c : ℕ → Bool) : Body → Body → Type 0 where
-  is : {es es′ : List Entry} {n : ℕ} → n ≤ length b → Laid (only c (λ i. false)) o (o + n) es → BodyLaid tlvs b o c (decoded es n) (decoded es′ n)
-  is-tlvs : {es es′ : List Entry} (s : ℕ) → o ≤ s → s ≤ o + length b → Laid (only c (λ i. false)) o s es
+data BodyLaid (tlvs : ℕ) (b : List ℕ) (o : ℕ) (c : List ℕ) : Body → Body → Type 0 where
+  is : {es es′ : List Entry} {n : ℕ} → n ≤ length b → Laid (only c []) o (o + n) es → BodyLaid tlvs b o c (decoded es n) (decoded es′ n)
+  is-tlvs : {es es′ : List Entry} (s : ℕ) → o ≤ s → s ≤ o + length b → Laid (only c []) o s es
       → BodyLaid tlvs b o c (decoded (es ++ (bytes tlvs s (o + length b) ∷ [])) (length b)) (decoded es′ (length b))
   is-raw : BodyLaid tlvs b o c raw raw
 
 -- A choice between two bodies, with their own containers or the same ones; and a body that is raw below a least length.
 module _ {tlvs : ℕ} {b : List ℕ} {o : ℕ} where
-  choice : (t : Bool) {f g : ℕ → Bool} {x x′ y y′ : Body} → BodyLaid tlvs b o f x x′ → BodyLaid tlvs b o g y y′
-      → BodyLaid tlvs b o (λ i. cond t (f i) (g i)) (cond t x y) (cond t x′ y′)
+  choice : (t : Bool) {f g : List ℕ} {x x′ y y′ : Body} → BodyLaid tlvs b o f x x′ → BodyLaid tlvs b o g y y′
+      → BodyLaid tlvs b o (cond t f g) (cond t x y) (cond t x′ y′)
   choice true m n = m
   choice false m n = n
 
-  same : (t : Bool) {c : ℕ → Bool} {x x′ y y′ : Body} → BodyLaid tlvs b o c x x′ → BodyLaid tlvs b o c y y′ → BodyLaid tlvs b o c (cond t x y) (cond t x′ y′)
+  same : (t : Bool) {c : List ℕ} {x x′ y y′ : Body} → BodyLaid tlvs b o c x x′ → BodyLaid tlvs b o c y y′ → BodyLaid tlvs b o c (cond t x y) (cond t x′ y′)
   same true m n = m
   same false m n = n
 
-  at-least : (n : ℕ) {c : ℕ → Bool} {x x′ : Body} → (n ≤ length b → BodyLaid tlvs b o c x x′)
-      → BodyLaid tlvs b o (λ i. cond (ltb (length b) n) false (c i)) (cond (ltb (length b) n) raw x) (cond (ltb (length b) n) raw x′)
+  at-least : (n : ℕ) {c : List ℕ} {x x′ : Body} → (n ≤ length b → BodyLaid tlvs b o c x x′)
+      → BodyLaid tlvs b o (from n (length b) c) (cond (ltb (length b) n) raw x) (cond (ltb (length b) n) raw x′)
   at-least n {c} {x} {x′} h = go (ltb (length b) n) refl
     where
-      go : (t : Bool) → ltb (length b) n ≡ t → BodyLaid tlvs b o (λ i. cond t false (c i)) (cond t raw x) (cond t raw x′)
+      go : (t : Bool) → ltb (length b) n ≡ t → BodyLaid tlvs b o (cond t [] c) (cond t raw x) (cond t raw x′)
       go true e = is-raw
       go false e = h (ltb-false (length b) n e)
 
   -- a row of fields up to a place, and the array of a list from there on
-  module _ {c : ℕ → Bool} {es′ : List Entry} (fields : List Entry) (i p : ℕ) (f : Span → List Entry) (least : ℕ) (declared : Rule) (k : ℕ)
-      (t : allHave (only c (λ i. false)) fields ≡ true) (in-front : AllIn o (o + p) fields) (g : c i ≡ true) (h : p ≤ length b)
-      (items : (q n : ℕ) → standing least declared b q ≡ some n → Laid (only c (λ i. false)) (o + q) (o + q + n) (f (span q n))) where
+  module _ {c : List ℕ} {es′ : List Entry} (fields : List Entry) (i p : ℕ) (f : Span → List Entry) (least : ℕ) (declared : Rule) (k : ℕ)
+      (t : allHave (only c []) fields ≡ true) (in-front : AllIn o (o + p) fields) (g : among c i ≡ true) (h : p ≤ length b)
+      (items : (q n : ℕ) → standing least declared b q ≡ some n → Laid (only c []) (o + q) (o + q + n) (f (span q n))) where
     is-listed : let ss = cut (standing least declared) b k p in BodyLaid tlvs b o c (decoded (fields ++ listing i f o p ss) (after p ss)) (decoded es′ (after p ss))
     is-listed =
         let a = after-from (cut (standing least declared) b k p) p in
@@ -150,7 +150,7 @@ module _ {tlvs : ℕ} {b : List ℕ} {o : ℕ} where
         is (cut-inside least declared b k p h)
         (laid-append (widen (omega arith) (omega arith) (laid-fields fields t in-front)) (laid-listing-if i o p f (standing least declared) b k (λ s e. g) (omega arith) (omega arith) items))
 
-  raw-below : (n : ℕ) {c : ℕ → Bool} {x x′ : Body} → (n ≤ length b → BodyLaid tlvs b o c x x′) → BodyLaid tlvs b o c (cond (ltb (length b) n) raw x) (cond (ltb (length b) n) raw x′)
+  raw-below : (n : ℕ) {c : List ℕ} {x x′ : Body} → (n ≤ length b → BodyLaid tlvs b o c x x′) → BodyLaid tlvs b o c (cond (ltb (length b) n) raw x) (cond (ltb (length b) n) raw x′)
   raw-below n {c} {x} {x′} h = go (ltb (length b) n) refl
     where
       go : (t : Bool) → ltb (length b) n ≡ t → BodyLaid tlvs b o c (cond t raw x) (cond t raw x′)
@@ -159,7 +159,7 @@ module _ {tlvs : ℕ} {b : List ℕ} {o : ℕ} where
 
 -- The bodies of version 2, at the places o and q.
 module _ (b : List ℕ) (o q : ℕ) where
-  abbrev Laid2 : (ℕ → Bool) → (List ℕ → ℕ → Body) → Type 0
+  abbrev Laid2 : List ℕ → (List ℕ → ℕ → Body) → Type 0
   Laid2 c f = BodyLaid 24 b o c (f b o) (f b q)
 
   router2 : Laid2 (from 4 (length b) (16 ∷ 96 ∷ 69 ∷ 97 ∷ [])) v2.routerLsa2
@@ -178,11 +178,11 @@ module _ (b : List ℕ) (o q : ℕ) where
   unfolding v2.externalLsa2 whole
   external2 = at-least _ (λ h. is-listed-if (v2.externalFields b o) _ _ _ _ _ _ refl (omega arith) refl h (laid-external-tos b o refl))
 
-  opaque : {c : ℕ → Bool} (u : ℕ) → Laid2 c (v2.opaqueLsa u)
+  opaque : {c : List ℕ} (u : ℕ) → Laid2 c (v2.opaqueLsa u)
   unfolding v2.opaqueLsa
   opaque u = same (v2.opaqueHasTlvs u) (is-tlvs {es = []} o (omega arith) (omega arith) none) is-raw
 
-  laid-body2 : (t u : ℕ) → Laid2 (opened2 t (length b)) (v2.body2 t u)
+  laid-body2 : (t u : ℕ) → Laid2 (containers2 t (length b)) (v2.body2 t u)
   unfolding v2.body2
   laid-body2 t u =
       choice (eqb t 1) router2
@@ -210,7 +210,7 @@ prefix-fits b l p n e = go (octets l) e
 
 -- The bodies of version 3.
 module _ (b : List ℕ) (o q : ℕ) where
-  abbrev Laid3 : (ℕ → Bool) → (List ℕ → ℕ → Body) → Type 0
+  abbrev Laid3 : List ℕ → (List ℕ → ℕ → Body) → Type 0
   Laid3 c f = BodyLaid 32 b o c (f b o) (f b q)
 
   router3 : Laid3 (from 4 (length b) (15 ∷ 96 ∷ [])) v3.routerLsa3
@@ -221,7 +221,7 @@ module _ (b : List ℕ) (o q : ℕ) where
   unfolding v3.networkLsa3 whole
   network3 = at-least _ (λ h. is-listed (v3.options b o ∷ []) _ _ _ _ _ _ refl (omega arith) refl h (laid-attached b o))
 
-  inter-area-prefix : {c : ℕ → Bool} → Laid3 c v3.interAreaPrefixLsa
+  inter-area-prefix : {c : List ℕ} → Laid3 c v3.interAreaPrefixLsa
   unfolding v3.interAreaPrefixLsa
   inter-area-prefix {c} = go (v3.prefixFits b (getD b 4 0) 8) refl
     where
@@ -232,7 +232,7 @@ module _ (b : List ℕ) (o q : ℕ) where
       go nothing e = is-raw
       go (some n) e = is (prefix-fits b (getD b 4 0) 8 n e) (laid-fields (fields o n) refl (omega arith))
 
-  inter-area-router : {c : ℕ → Bool} → Laid3 c v3.interAreaRouterLsa
+  inter-area-router : {c : List ℕ} → Laid3 c v3.interAreaRouterLsa
   unfolding v3.interAreaRouterLsa
   inter-area-router = raw-below _ (λ h. is h (laid-fields _ refl (omega arith)))
 
@@ -244,11 +244,11 @@ module _ (b : List ℕ) (o q : ℕ) where
   unfolding v3.intraAreaPrefixLsa
   intra-area-prefix = at-least _ (λ h. is-listed (wide16At 28 b o 0 ∷ v3.references b o) _ _ _ _ _ _ refl (omega arith) refl h (laid-prefix b o refl true))
 
-  tlv-lsa : {c : ℕ → Bool} (n : ℕ) (es es′ : List Entry) → allHave (only c (λ i. false)) es ≡ true → AllIn o (o + n) es → BodyLaid 32 b o c (v3.tlvLsa n es b o) (v3.tlvLsa n es′ b q)
+  tlv-lsa : {c : List ℕ} (n : ℕ) (es es′ : List Entry) → allHave (only c []) es ≡ true → AllIn o (o + n) es → BodyLaid 32 b o c (v3.tlvLsa n es b o) (v3.tlvLsa n es′ b q)
   unfolding v3.tlvLsa
   tlv-lsa n es es′ t l = raw-below _ (λ h. is-tlvs (o + n) (omega arith) (omega arith) (laid-fields es t l))
 
-  external3 : {c : ℕ → Bool} → Laid3 c v3.externalLsa3
+  external3 : {c : List ℕ} → Laid3 c v3.externalLsa3
   unfolding v3.externalLsa3
   external3 {c} = go (v3.prefixFits b (getD b 4 0) 8)
     where
@@ -256,12 +256,12 @@ module _ (b : List ℕ) (o q : ℕ) where
       fields p n = v3.externalFlags b p ++ (v3.externalPrefix b p n ++ v3.externalOptional b p n)
 
       -- a field of n bytes that is there where the test says so
-      optional : (t : Bool) (x : Entry) (p n : ℕ) → allHave (only c (λ i. false)) (x ∷ []) ≡ true → start x ≡ o + p → end x ≡ o + p + n → (hi : ℕ) → p + cond t n 0 ≤ hi
-          → Laid (only c (λ i. false)) o (o + hi) (cond t (x ∷ []) [])
+      optional : (t : Bool) (x : Entry) (p n : ℕ) → allHave (only c []) (x ∷ []) ≡ true → start x ≡ o + p → end x ≡ o + p + n → (hi : ℕ) → p + cond t n 0 ≤ hi
+          → Laid (only c []) o (o + hi) (cond t (x ∷ []) [])
       optional true x p n h s e hi l = laid-fields (x ∷ []) h (omega arith)
       optional false x p n h s e hi l = none
 
-      laid : (n : ℕ) → Laid (only c (λ i. false)) o (o + v3.externalEnd b n) (fields o n)
+      laid : (n : ℕ) → Laid (only c []) o (o + v3.externalEnd b n) (fields o n)
       laid n =
           laid-append (laid-fields (v3.externalFlags b o) refl (omega arith))
           (laid-append (laid-fields (v3.externalPrefix b o n) refl (omega arith))
@@ -275,7 +275,7 @@ module _ (b : List ℕ) (o q : ℕ) where
       go nothing = is-raw
       go (some n) = raw-below (v3.externalEnd b n) (λ h. is h (laid n))
 
-  laid-body3 : (f : ℕ) → Laid3 (opened3 f (length b)) (v3.body3 f)
+  laid-body3 : (f : ℕ) → Laid3 (containers3 f (length b)) (v3.body3 f)
   unfolding v3.body3
   laid-body3 f =
       choice (eqb f 1) router3
@@ -298,7 +298,7 @@ module _ (b : List ℕ) (o q : ℕ) where
       (same (eqb f 42) (tlv-lsa 0 [] [] refl (omega arith)) is-raw)))))))))))))))))
 
 -- A body's entries with what is left of it, and its tail.
-body-ends : {tlvs : ℕ} {b : List ℕ} {o : ℕ} {c : ℕ → Bool} {x x′ : Body} (w : ℕ → Bool) (r u : ℕ) → w tlvs ≡ true → w r ≡ true → BodyLaid tlvs b o c x x′
+body-ends : {tlvs : ℕ} {b : List ℕ} {o : ℕ} {c : List ℕ} {x x′ : Body} (w : List ℕ) (r u : ℕ) → among w tlvs ≡ true → among w r ≡ true → BodyLaid tlvs b o c x x′
     → Ending c w u o (o + length b) (bodyEntries r u x b o) (bodyTail x′ b)
 unfolding bodyEntries bodyTail leftover
 body-ends {b = b} {o = o} {c = c} w r u h k (is {es = es} {n = n} i l) = go (ltb n (length b)) refl
@@ -314,7 +314,7 @@ body-ends {b = b} {o = o} {c = c} w r u h k is-raw = go (ltb 0 (length b))
     go false = no-range none refl
 
 -- The same after entries that lie before it and have no kind 8 entry.
-after-front : {c w : ℕ → Bool} {u lo mid hi tail : ℕ} {front es : List Entry} → Laid (only c (λ i. false)) lo mid front → lo ≤ mid → mid ≤ hi
+after-front : {c w : List ℕ} {u lo mid hi tail : ℕ} {front es : List Entry} → Laid (only c []) lo mid front → lo ≤ mid → mid ≤ hi
     → Ending c w u mid hi es tail → Ending c w u lo hi (front ++ es) tail
 after-front l a b (no-range m t) = no-range (laid-append (widen (omega arith) b l) (widen a (omega arith) m)) t
 after-front {front = front} l a b (leaves es s e m f g t) =
@@ -323,14 +323,37 @@ after-front {front = front} l a b (takes es i s k e m f g t) =
     takes (front ++ es) i s k (ap (λ (x : List Entry). front ++ x) e ∙ sym (append-assoc front es _)) (laid-append (widen (omega arith) f l) (widen a (omega arith) m)) (omega arith) g t
 
 -- How the entries of any LSA end, whatever its length; and what they are laid out in.
-pub lsa-ends : (v : ℕ) (d : List ℕ) (o : ℕ) → Ending (opened v d) (wholeIds v) (unparsed v) o (o + 20 + length (drop 20 d)) (lsaEntries v d o) (lsaTail v d)
+pub lsa-ends : (v : ℕ) (d : List ℕ) (o : ℕ) → Ending (containers v d) (taken v) (unparsed v) o (o + 20 + length (drop 20 d)) (lsaEntries v d o) (lsaTail v d)
 unfolding v2.lsaEntries2 v2.lsaTail2 v3.lsaEntries3 v3.lsaTail3
 lsa-ends v d o = go (eqb v 2)
   where
     b : List ℕ
     b = drop 20 d
 
-    go : (t : Bool) → Ending (λ i. cond t (opened2 (getD d 3 0) (length b) i) (opened3 (be16At d 2 % 8192) (length b) i)) (λ i. cond t (among (23 ∷ 24 ∷ []) i) (among (31 ∷ 32 ∷ []) i)) (cond t 25 33)
+    go : (t : Bool) → Ending (cond t (containers2 (getD d 3 0) (length b)) (containers3 (be16At d 2 % 8192) (length b))) (cond t (23 ∷ 24 ∷ []) (31 ∷ 32 ∷ [])) (cond t 25 33)
         o (o + 20 + length b) (cond t (v2.lsaEntries2 d o) (v3.lsaEntries3 d o)) (cond t (v2.lsaTail2 d) (v3.lsaTail3 d))
     go true = after-front (laid-header2 d o) (omega arith) (omega arith) (body-ends _ 23 25 refl refl (laid-body2 b (o + 20) 20 (getD d 3 0) (getD d 4 0)))
     go false = after-front (laid-header3 d o) (omega arith) (omega arith) (body-ends _ 31 33 refl refl (laid-body3 b (o + 20) 20 (be16At d 2 % 8192)))
+
+-- Entries that end so are laid out.
+or-else : (t : Bool) {x : Bool} → x ≡ true → cond t true x ≡ true
+or-else true h = refl
+or-else false h = h
+
+ending-laid : {c w : List ℕ} {u lo hi tail : ℕ} {es : List Entry} → Ending c w u lo hi es tail → Laid (only c (u ∷ w)) lo hi es
+ending-laid {c} {w} {u} {lo} {hi} {tail} {es} e = go e
+  where
+    fewer : {mid : ℕ} {xs : List Entry} → mid ≤ hi → Laid (only c []) lo mid xs → Laid (only c (u ∷ w)) lo hi xs
+    fewer h l = weaken (only-more c c [] (u ∷ w) (λ i k. k) (λ i k. let z : _≡_ {A = ℕ} 0 1 = cc in absurd (omega arith))) (widen (omega arith) h l)
+
+    go : Ending c w u lo hi es tail → Laid (only c (u ∷ w)) lo hi es
+    go (no-range l t) = fewer (omega arith) l
+    go (leaves front s e l f g t) = rw e (laid-append (fewer (omega arith) l) (laid-fields (bytes u s hi ∷ []) (rw (eq-eqb u u refl)) (omega arith)))
+    go (takes front i s k e l f g t) = rw e (laid-append (fewer g l) (laid-fields (bytes i s hi ∷ []) (rw (or-else (eqb i u) k)) (omega arith)))
+
+-- The entries of any LSA, to the end of its header at least; and of one that has its header.
+pub laid-any : (v : ℕ) (d : List ℕ) (o : ℕ) → Laid (holds v d) o (o + 20 + length (drop 20 d)) (lsaEntries v d o)
+laid-any v d o = ending-laid (lsa-ends v d o)
+
+pub laid-lsa : (v : ℕ) (d : List ℕ) (o : ℕ) → 20 ≤ length d → Laid (holds v d) o (o + length d) (lsaEntries v d o)
+laid-lsa v d o h = let l = length-drop 20 d in widen (omega arith) (omega arith) (laid-any v d o)

@@ -2,8 +2,9 @@
 -- lies in the container's own range. So every place of a strip lies in the container around it and in the data.
 use Prim.Native.Nat.{ℕ, _-_, _≤_, _<_}
 use mathlib.Core.Path.{_≡_}
-use mathlib.Core.Bool.{Bool, true, false}
+use mathlib.Core.Bool.{Bool, true, false, cond}
 use mathlib.Core.List.{List, [], _∷_, _++_}
+use lib.Dec.{eqb}
 use Rattle.format.specs.Strip.{Entry}
 use Rattle.format.specs.Strip.Entry.{opens, closes, u8, u16, u32, ip4, ip6, bytes}
 use Rattle.format.specs.Shown.{isField}
@@ -37,23 +38,28 @@ pub data Laid (has : Entry → Bool) : (lo hi : ℕ) → List Entry → Type 0 w
   group : {lo hi : ℕ} {inside es : List Entry} (i s e : ℕ) → has (opens i s e) ≡ true → lo ≤ s → s ≤ e → e ≤ hi
       → Laid has s e inside → Laid has lo hi es → Laid has lo hi (opens i s e ∷ (inside ++ (closes ∷ es)))
 
+-- Whether an id is one of a list.
+abbrev pub among : List ℕ → ℕ → Bool
+among [] i = false
+among (x ∷ xs) i = cond (eqb i x) true (among xs i)
+
 -- Tests of entries: containers with these ids, kind 8 entries with those, and every field that has a value.
-abbrev pub only : (containers ranges : ℕ → Bool) → Entry → Bool
-only c r (opens i s e) = c i
+abbrev pub only : (containers ranges : List ℕ) → Entry → Bool
+only c r (opens i s e) = among c i
 only c r closes = true
 only c r (u8 i s e v) = true
 only c r (u16 i s e v) = true
 only c r (u32 i s e v) = true
 only c r (ip4 i s e a) = true
 only c r (ip6 i s e h l) = true
-only c r (bytes i s e) = r i
+only c r (bytes i s e) = among r i
 
 -- How the entries of an LSA end, and what its tail is. At most one entry is of kind 8: the last one, to the end of the
 -- range, which all others lie before. Where it is the unparsed bytes, the tail is its length; a raw body or a tlvs range,
--- whose ids pass the test r, is no tail.
-pub data Ending (c r : ℕ → Bool) (unparsed lo hi : ℕ) (es : List Entry) (tail : ℕ) : Type 0 where
-  no-range : Laid (only c (λ i. false)) lo hi es → tail ≡ 0 → Ending c r unparsed lo hi es tail
-  leaves : (front : List Entry) (s : ℕ) → es ≡ front ++ (bytes unparsed s hi ∷ []) → Laid (only c (λ i. false)) lo s front
+-- which have the ids r, is no tail. The containers have the ids c.
+pub data Ending (c r : List ℕ) (unparsed lo hi : ℕ) (es : List Entry) (tail : ℕ) : Type 0 where
+  no-range : Laid (only c []) lo hi es → tail ≡ 0 → Ending c r unparsed lo hi es tail
+  leaves : (front : List Entry) (s : ℕ) → es ≡ front ++ (bytes unparsed s hi ∷ []) → Laid (only c []) lo s front
       → lo ≤ s → s < hi → tail ≡ hi - s → Ending c r unparsed lo hi es tail
-  takes : (front : List Entry) (i s : ℕ) → r i ≡ true → es ≡ front ++ (bytes i s hi ∷ []) → Laid (only c (λ i. false)) lo s front
+  takes : (front : List Entry) (i s : ℕ) → among r i ≡ true → es ≡ front ++ (bytes i s hi ∷ []) → Laid (only c []) lo s front
       → lo ≤ s → s ≤ hi → tail ≡ 0 → Ending c r unparsed lo hi es tail

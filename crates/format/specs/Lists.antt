@@ -11,48 +11,43 @@ use Rattle.format.specs.Cut.{Span, cut, linkRule, prefixRule, fixedRule,
 use Rattle.format.specs.Shown.{Range, placed}
 use Rattle.format.specs.Laid.{only}
 
--- Whether an id is one of a list.
-abbrev pub among : List ℕ → ℕ → Bool
-among [] i = false
-among (x ∷ xs) i = cond (eqb i x) true (among xs i)
-
--- A body below the least length of its type is not decoded, and has no container.
-abbrev pub from : (least size : ℕ) → List ℕ → ℕ → Bool
-from least n ids i = cond (ltb n least) false (among ids i)
+-- The ids of the containers in a body that is decoded from a least length on; below that it has none.
+abbrev pub from : (least n : ℕ) → List ℕ → List ℕ
+from least n ids = cond (ltb n least) [] ids
 
 -- The containers in a body of n bytes, by the LS type: arrays of links (16), of attached routers (18), of TOS metrics (20,
 -- and 69 in a link); links (96) and TOS metrics (97).
-abbrev pub opened2 : (lsType n : ℕ) → (id : ℕ) → Bool
-opened2 t n i =
-    cond (eqb t 1) (from 4 n (16 ∷ 96 ∷ 69 ∷ 97 ∷ []) i)
-    (cond (eqb t 2) (from 4 n (18 ∷ []) i)
-    (cond (eqb t 3) (from 8 n (20 ∷ 97 ∷ []) i)
-    (cond (eqb t 4) (from 8 n (20 ∷ 97 ∷ []) i)
-    (cond (eqb t 5) (from 16 n (20 ∷ 97 ∷ []) i)
-    (cond (eqb t 7) (from 16 n (20 ∷ 97 ∷ []) i)
-    false)))))
+abbrev pub containers2 : (lsType n : ℕ) → List ℕ
+containers2 t n =
+    cond (eqb t 1) (from 4 n (16 ∷ 96 ∷ 69 ∷ 97 ∷ []))
+    (cond (eqb t 2) (from 4 n (18 ∷ []))
+    (cond (eqb t 3) (from 8 n (20 ∷ 97 ∷ []))
+    (cond (eqb t 4) (from 8 n (20 ∷ 97 ∷ []))
+    (cond (eqb t 5) (from 16 n (20 ∷ 97 ∷ []))
+    (cond (eqb t 7) (from 16 n (20 ∷ 97 ∷ []))
+    [])))))
 
 -- The same by the function code: arrays of links (15), of attached routers (16), of prefixes (29); links (96) and
 -- prefixes (97).
-abbrev pub opened3 : (function n : ℕ) → (id : ℕ) → Bool
-opened3 f n i =
-    cond (eqb f 1) (from 4 n (15 ∷ 96 ∷ []) i)
-    (cond (eqb f 2) (from 4 n (16 ∷ []) i)
-    (cond (eqb f 8) (from 24 n (29 ∷ 97 ∷ []) i)
-    (cond (eqb f 9) (from 12 n (29 ∷ 97 ∷ []) i)
-    false)))
+abbrev pub containers3 : (function n : ℕ) → List ℕ
+containers3 f n =
+    cond (eqb f 1) (from 4 n (15 ∷ 96 ∷ []))
+    (cond (eqb f 2) (from 4 n (16 ∷ []))
+    (cond (eqb f 8) (from 24 n (29 ∷ 97 ∷ []))
+    (cond (eqb f 9) (from 12 n (29 ∷ 97 ∷ []))
+    [])))
 
--- The containers in an LSA. Its LS type is byte 3 in version 2; the function is the low 13 bits of the LS type in version 3.
-abbrev pub opened : (version : ℕ) → List ℕ → (id : ℕ) → Bool
-opened v d i = cond (eqb v 2) (opened2 (getD d 3 0) (length (drop 20 d)) i) (opened3 (be16At d 2 % 8192) (length (drop 20 d)) i)
+-- The containers in an LSA. Its LS type is byte 3 in version 2; in version 3 the function is the low 13 bits of the LS type.
+abbrev pub containers : (version : ℕ) → List ℕ → List ℕ
+containers v d = cond (eqb v 2) (containers2 (getD d 3 0) (length (drop 20 d))) (containers3 (be16At d 2 % 8192) (length (drop 20 d)))
 
 -- A raw body and a tlvs range; unparsed bytes.
-abbrev pub wholeIds : (version : ℕ) → (id : ℕ) → Bool
-wholeIds v i = cond (eqb v 2) (among (23 ∷ 24 ∷ []) i) (among (31 ∷ 32 ∷ []) i)
+abbrev pub taken : (version : ℕ) → List ℕ
+taken v = cond (eqb v 2) (23 ∷ 24 ∷ []) (31 ∷ 32 ∷ [])
 
 abbrev pub unparsed : (version : ℕ) → ℕ
 unparsed v = cond (eqb v 2) 25 33
 
 -- The entries in an LSA: its containers, the three kind 8 entries, and fields with a value.
 abbrev pub holds : (version : ℕ) → List ℕ → Entry → Bool
-holds v d = only (opened v d) (λ i. cond (eqb i (unparsed v)) true (wholeIds v i))
+holds v d = only (containers v d) (unparsed v ∷ taken v)
