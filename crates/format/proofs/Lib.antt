@@ -18,6 +18,6 @@ pub mod NestedLsa
 pub mod Shown
 pub mod Walks
 pub mod Refusals
-pub mod Within
+pub mod LaidWalks
 pub mod Part
 pub mod Program

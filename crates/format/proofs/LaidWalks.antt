@@ -1,0 +1,93 @@
+-- The entries of every accepted walk are laid out in the data: every start and end is a place in the data plus the offset,
+-- in order, and lies in the container around it.
+use Prim.Native.Nat.{ℕ, _+_, _≤_}
+use native.Mathlib.Omega.{arith}
+use mathlib.Core.Path.{_≡_, refl}
+use mathlib.Core.Bool.{Bool, true, false, cond}
+use mathlib.Core.List.{List, []}
+use mathlib.Core.Option.{some}
+use lib.ListN.{length, drop, length-drop}
+use lib.Seq.{length-take-le}
+use lib.Dec.{eqb}
+use borrow.Author.Tests.{eqb-true}
+use Rattle.format.specs.Bytes.{part}
+use Rattle.format.specs.Strip.{Entry}
+use Rattle.format.specs.Cut.{Span, Rule, cut, after, standing, fixedRule, recordRule}
+use Rattle.format.specs.Body.{whole}
+use Rattle.format.specs.Walks.{Outcome, unless, refusal, lsaEntries, lsaTail, headerObject, lsaObject, outer, unparsedId, headers, lsas, headersOf, updateOf, lsaOf, walkOf}
+use Rattle.format.specs.Walks.Outcome.{refused, accepted}
+use Rattle.format.specs.Laid.{Laid, anything, Ending}
+use Rattle.format.specs.Lists.{containers, taken, unparsed, holds}
+use Rattle.format.proofs.Unique.{span}
+use Rattle.format.proofs.Rules.{inside}
+use Rattle.format.proofs.Refusals.{limits}
+use Rattle.format.proofs.Laid.{after-from, cut-inside, widen, weaken, laid-append, laid-container, laid-cond, laid-listing, laid-leftover}
+use Rattle.format.proofs.LaidLsa.{laid-header2, laid-header3, laid-lsa, lsa-ends}
+
+-- The bytes of an entry that stands in the data.
+length-part : (d : List ℕ) (p n : ℕ) → p + n ≤ length d → length (part d p n) ≡ n
+length-part d p n h = length-take-le n (drop p d) (rw (length-drop p d) (omega arith))
+
+-- An outer array and the tail after it, where each object lies where its span stands.
+laid-outer : (v : ℕ) (f : Span → List Entry) (d : List ℕ) (o least : ℕ) (declared : Rule) (k p : ℕ) → p ≤ length d
+    → ((q n : ℕ) → standing least declared d q ≡ some n → Laid anything (o + q) (o + q + n) (f (span q n)))
+    → Laid anything o (o + length d) (outer v f d o p (cut (standing least declared) d k p))
+unfolding outer
+laid-outer v f d o least declared k p h items =
+    let a = after-from (cut (standing least declared) d k p) p in
+    let b = cut-inside least declared d k p h in
+    laid-append (laid-listing 114 o p f (standing least declared) d k (λ s e. refl) (omega arith) (omega arith) items)
+    (laid-leftover (unparsedId v) d o (after p (cut (standing least declared) d k p)) (λ s e. refl) (omega arith) (omega arith))
+
+pub laid-headers : (v : ℕ) (d : List ℕ) (o : ℕ) → Laid anything o (o + length d) (outer v (headerObject v d o) d o 0 (headers d))
+unfolding whole headerObject
+laid-headers v d o = laid-outer v (headerObject v d o) d o 20 _ _ 0 (omega arith) object
+  where
+    object : (q n : ℕ) → fixedRule 20 d q ≡ some n → Laid anything (o + q) (o + q + n) (headerObject v d o (span q n))
+    object q n e =
+        let l = inside 20 _ d q n e .enough in
+        laid-container _ _ _ refl (omega arith) (omega arith) (omega arith)
+        (widen (omega arith) (omega arith) (weaken (λ x h. refl) (laid-cond (eqb v 2) (laid-header2 {c = []} {r = []} (part d q n) (o + q)) (laid-header3 (part d q n) (o + q)))))
+
+pub laid-update : (v : ℕ) (d : List ℕ) (count o : ℕ) → 4 ≤ length d → Laid anything o (o + length d) (outer v (lsaObject v d o) d o 4 (lsas d count))
+unfolding lsaObject
+laid-update v d count o h = laid-outer v (lsaObject v d o) d o 20 _ count 4 h object
+  where
+    object : (q n : ℕ) → recordRule d q ≡ some n → Laid anything (o + q) (o + q + n) (lsaObject v d o (span q n))
+    object q n e =
+        let i = inside 20 _ d q n e in
+        let m = length-part d q n (i .within) in
+        laid-container _ _ _ refl (omega arith) (omega arith) (omega arith)
+        (widen (omega arith) (omega arith) (weaken (λ x h. refl) (laid-lsa v (part d q n) (o + q) (omega (arith, i .enough)))))
+
+-- A call that is accepted has no refusal, and has these entries and this tail.
+pub accepts : (n : ℕ) (es : List Entry) (r t : ℕ) {es′ : List Entry} {r′ t′ : ℕ} → unless n (accepted es r t) ≡ accepted es′ r′ t′ → (n ≡ 0) × (es ≡ es′) × (t ≡ t′)
+unfolding unless
+accepts n es r t {es′} {r′} {t′} h = go (eqb n 0) refl h
+  where
+    go : (x : Bool) → eqb n 0 ≡ x → cond x (accepted es r t) (refused n) ≡ accepted es′ r′ t′ → (n ≡ 0) × (es ≡ es′) × (t ≡ t′)
+    go true e h = (eqb-true n 0 e, (cc), (cc))
+    go false e h = let z : _≡_ {A = ℕ} 0 1 = cc in absurd (omega arith)
+
+-- Every accepted header list, update and single LSA.
+pub headers-laid : (v : ℕ) (d : List ℕ) (o : ℕ) {es : List Entry} {r t : ℕ} → headersOf v d o ≡ accepted es r t → Laid anything o (o + length d) es
+unfolding headersOf
+headers-laid v d o h = rw (← (accepts _ _ _ _ h .1)) (laid-headers v d o)
+
+pub update-laid : (v : ℕ) (d : List ℕ) (count o : ℕ) {es : List Entry} {r t : ℕ} → updateOf v d count o ≡ accepted es r t → Laid anything o (o + length d) es
+unfolding updateOf
+update-laid v d count o h = let a = accepts _ _ _ _ h in rw (← (a .1)) (laid-update v d count o (limits v d o 4 (a .0) .enough))
+
+pub lsa-laid : (v : ℕ) (d : List ℕ) (o : ℕ) {es : List Entry} {r t : ℕ} → lsaOf v d o ≡ accepted es r t → Laid (holds v d) o (o + length d) es
+unfolding lsaOf
+lsa-laid v d o h = let a = accepts _ _ _ _ h in rw (← (a .1)) (laid-lsa v d o (limits v d o 20 (a .0) .enough))
+
+-- The tail that an accepted single LSA answers.
+pub lsa-tail : (v : ℕ) (d : List ℕ) (o : ℕ) {es : List Entry} {r t : ℕ} → lsaOf v d o ≡ accepted es r t → Ending (containers v d) (taken v) (unparsed v) o (o + length d) es t
+unfolding lsaOf
+lsa-tail v d o h =
+    let a = accepts _ _ _ _ h in
+    let l = length-drop 20 d in
+    let m = limits v d o 20 (a .0) .enough in
+    let q : o + 20 + length (drop 20 d) ≡ o + length d = omega arith in
+    rw (← (a .1), ← (a .2), ← q) (lsa-ends v d o)
