@@ -171,7 +171,7 @@ abbrev pub all : (ℕ → Bool) → List ℕ → Bool
 all ok [] = true
 all ok (x ∷ xs) = cond (ok x) (all ok xs) false
 
-all-among : (ok : ℕ → Bool) (ids : List ℕ) (i : ℕ) → all ok ids ≡ true → among ids i ≡ true → ok i ≡ true
+pub all-among : (ok : ℕ → Bool) (ids : List ℕ) (i : ℕ) → all ok ids ≡ true → among ids i ≡ true → ok i ≡ true
 all-among ok [] i h k = let z : _≡_ {A = ℕ} 0 1 = cc in absurd (omega arith)
 all-among ok (x ∷ xs) i h k = go (eqb i x) refl (ok x) refl h k (all-among ok xs i)
   where
@@ -181,8 +181,21 @@ all-among ok (x ∷ xs) i h k = go (eqb i x) refl (ok x) refl h k (all-among ok 
     go true e false f h k ih = let z : _≡_ {A = ℕ} 0 1 = cc in absurd (omega arith)
     go false e false f h k ih = let z : _≡_ {A = ℕ} 0 1 = cc in absurd (omega arith)
 
+-- Tests of one of two lists, and of two that agree.
+pub all-cond : (ok : ℕ → Bool) (t : Bool) (x y : List ℕ) → all ok (cond t x y) ≡ cond t (all ok x) (all ok y)
+all-cond ok true x y = refl
+all-cond ok false x y = refl
+
+pub among-cond : (t : Bool) (x y : List ℕ) (i : ℕ) → among (cond t x y) i ≡ cond t (among x i) (among y i)
+among-cond true x y i = refl
+among-cond false x y i = refl
+
+pub cond-same : (t x : Bool) → cond t x x ≡ x
+cond-same true x = refl
+cond-same false x = refl
+
 -- What is laid out is well nested, by any test that the ids of its containers pass.
-pub laid-nested : (c r : List ℕ) {ok : ℕ → Bool} {lo hi : ℕ} {es : List Entry} → all ok c ≡ true → Laid (only c r) lo hi es → Nested ok es
-laid-nested c r h none = nested-none
-laid-nested c r h (field f t a b d l) = nested-field f (laid-nested c r h l)
-laid-nested c r {ok} h (group i s e t a b d k l) = nested-group i s e (all-among ok c i h t) (laid-nested c r h k) (laid-nested c r h l)
+pub laid-nested : (c r : List ℕ) {ok : ℕ → Bool} {lo hi : ℕ} {es : List Entry} → ((i : ℕ) → among c i ≡ true → ok i ≡ true) → Laid (only c r) lo hi es → Nested ok es
+laid-nested c r w none = nested-none
+laid-nested c r w (field f t a b d l) = nested-field f (laid-nested c r w l)
+laid-nested c r w (group i s e t a b d k l) = nested-group i s e (w i t) (laid-nested c r w k) (laid-nested c r w l)

@@ -19,5 +19,6 @@ pub mod Shown
 pub mod Walks
 pub mod Refusals
 pub mod LaidWalks
+pub mod ListRanges
 pub mod Part
 pub mod Program

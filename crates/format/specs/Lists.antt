@@ -51,3 +51,28 @@ unparsed v = cond (eqb v 2) 25 33
 -- The entries in an LSA: its containers, the three kind 8 entries, and fields with a value.
 abbrev pub holds : (version : ℕ) → List ℕ → Entry → Bool
 holds v d = only (containers v d) (unparsed v ∷ taken v)
+
+-- The ranges of the spans of a list in a body that begins at the place o, where the body has the bytes before the list's
+-- first place; else it has no list.
+abbrev pub listed : (first : ℕ) → List ℕ → ℕ → List Span → List Range
+listed first b o ss = cond (ltb (length b) first) [] (placed o ss)
+
+-- The links of an LSA: of a version 2 Router-LSA (type 1) under its own count, of a version 3 one (function 1) as many of
+-- 16 bytes as there are. No other LSA has links.
+abbrev pub linkRanges : (version : ℕ) → List ℕ → ℕ → List Range
+linkRanges v d o =
+    cond (eqb v 2)
+    (cond (eqb (getD d 3 0) 1) (listed 4 (drop 20 d) (o + 20) (cut linkRule (drop 20 d) (be16At (drop 20 d) 2) 4)) [])
+    (cond (eqb (be16At d 2 % 8192) 1) (listed 4 (drop 20 d) (o + 20) (cut (fixedRule 16) (drop 20 d) ((length (drop 20 d) - 4) / 16) 4)) [])
+
+-- The prefixes of a version 3 LSA: of a Link-LSA (function 8) and of an Intra-Area-Prefix-LSA (function 9), under their own
+-- counts. No other LSA has a list of prefixes.
+abbrev pub prefixRanges : List ℕ → ℕ → List Range
+prefixRanges d o =
+    cond (eqb (be16At d 2 % 8192) 8) (listed 24 (drop 20 d) (o + 20) (cut prefixRule (drop 20 d) (be32At (drop 20 d) 20) 24))
+    (cond (eqb (be16At d 2 % 8192) 9) (listed 12 (drop 20 d) (o + 20) (cut prefixRule (drop 20 d) (be16At (drop 20 d) 0) 12))
+    [])
+
+-- What is said of each LSA of an update, one after another.
+abbrev pub ofLsas : List ℕ → (count : ℕ) → ℕ → (List ℕ → ℕ → List Range) → List Range
+ofLsas d count o f = flatMap (λ (s : Span). f (part d (s .at) (s .len)) (o + s .at)) (cut recordRule d count 4)
