@@ -3,8 +3,9 @@
 use Prim.Native.Nat.{ℕ, _+_, _≤_}
 use native.Mathlib.Omega.{arith}
 use mathlib.Core.Path.{_≡_, refl}
+use mathlib.Core.Logic.{⊎-elim}
 use mathlib.Core.Bool.{Bool, true, false, cond}
-use mathlib.Core.List.{List, []}
+use mathlib.Core.List.{List, [], _∷_, List·Memᴰ, List·Memᴰ·eq-of-singleton, List·Memᴰ·append-cases}
 use mathlib.Core.Option.{some}
 use lib.ListN.{length, drop, length-drop}
 use lib.Seq.{length-take-le}
@@ -12,16 +13,18 @@ use lib.Dec.{eqb}
 use borrow.Author.Tests.{eqb-true}
 use Rattle.format.specs.Bytes.{part}
 use Rattle.format.specs.Strip.{Entry}
+use Rattle.format.specs.Strip.Entry.{bytes}
 use Rattle.format.specs.Cut.{Span, Rule, cut, after, standing, fixedRule, recordRule}
 use Rattle.format.specs.Body.{whole}
 use Rattle.format.specs.Walks.{Outcome, unless, refusal, lsaEntries, lsaTail, headerObject, lsaObject, outer, unparsedId, headers, lsas, headersOf, updateOf, lsaOf, walkOf}
 use Rattle.format.specs.Walks.Outcome.{refused, accepted}
-use Rattle.format.specs.Laid.{Laid, anything, Ending}
+use Rattle.format.specs.Laid.{Laid, among, anything, Ending}
+use Rattle.format.specs.Laid.Ending.{no-range, leaves, takes}
 use Rattle.format.specs.Lists.{containers, taken, unparsed, holds}
 use Rattle.format.proofs.Unique.{span}
 use Rattle.format.proofs.Rules.{inside}
 use Rattle.format.proofs.Refusals.{limits}
-use Rattle.format.proofs.Laid.{after-from, cut-inside, widen, weaken, laid-append, laid-container, laid-cond, laid-listing, laid-leftover}
+use Rattle.format.proofs.Laid.{after-from, cut-inside, widen, weaken, laid-append, laid-container, laid-cond, laid-listing, laid-leftover, laid-member}
 use Rattle.format.proofs.LaidLsa.{laid-header2, laid-header3, laid-lsa, lsa-ends}
 
 -- The bytes of an entry that stands in the data.
@@ -91,3 +94,20 @@ lsa-tail v d o h =
     let m = limits v d o 20 (a .0) .enough in
     let q : o + 20 + length (drop 20 d) ≡ o + length d = omega arith in
     rw (← (a .1), ← (a .2), ← q) (lsa-ends v d o)
+
+-- So a raw body (23, 31) or a tlvs range (24, 32) in the strip goes with no tail.
+pub taken-no-tail : (v : ℕ) (d : List ℕ) (o : ℕ) {es : List Entry} {r t : ℕ} → lsaOf v d o ≡ accepted es r t
+    → (i s e : ℕ) → among (taken v) i ≡ true → List·Memᴰ (bytes i s e) es → t ≡ 0
+taken-no-tail v d o {es} {r} {t} h i s e k m = go (lsa-tail v d o h)
+  where
+    apart : (x : Bool) → among (cond x (23 ∷ 24 ∷ []) (31 ∷ 32 ∷ [])) (cond x 25 33) ≡ false
+    apart true = refl
+    apart false = refl
+
+    go : Ending (containers v d) (taken v) (unparsed v) o (o + length d) es t → t ≡ 0
+    go (no-range l z) = z
+    go (takes front j p q f l a b z) = z
+    go (leaves front p f l a b z) = ⊎-elim {C = t ≡ 0}
+        (λ n. let y : _≡_ {A = ℕ} 0 1 = cc (laid-member (bytes i s e) (λ w. let y : _≡_ {A = ℕ} 0 1 = cc in omega arith) l n .passes) in absurd (omega arith))
+        (λ n. let w : i ≡ unparsed v = cc (List·Memᴰ·eq-of-singleton n) in let y : _≡_ {A = ℕ} 0 1 = cc (rw w at k, apart (eqb v 2)) in absurd (omega arith))
+        (List·Memᴰ·append-cases front (rw f at m))
