@@ -1,9 +1,9 @@
 -- Laws of entries that are laid out in a range: rows of fields, one list after another, containers, and the entries of a
 -- cut; and what follows for each entry and for the nesting.
-use Prim.Native.Nat.{ℕ, zero, suc, _+_, _-_, _*_, _≤_, _<_}
+use Prim.Native.Nat.{ℕ, zero, suc, _+_, _*_, _≤_}
 use native.Mathlib.Nat.{suc-mul, zero-mul}
 use native.Mathlib.Omega.{arith}
-use mathlib.Core.Path.{_≡_, refl, ap}
+use mathlib.Core.Path.{_≡_, refl}
 use mathlib.Core.Logic.{⊎-elim}
 use mathlib.Core.Bool.{Bool, true, false, cond}
 use mathlib.Core.List.{List, [], _∷_, _++_, flatMap, append-assoc, List·Memᴰ, List·Memᴰ·not-nil, List·Memᴰ·cases-cons, List·Memᴰ·append-cases}
@@ -104,7 +104,7 @@ module _ {has : Entry → Bool} where
   unfolding container
   laid-container i s e t a b c l = group i s e t a b c l none
 
-  -- a choice between two lists, and a field that may be there
+  -- a choice between two lists
   pub laid-cond : {lo hi : ℕ} (t : Bool) {xs ys : List Entry} → Laid has lo hi xs → Laid has lo hi ys → Laid has lo hi (cond t xs ys)
   laid-cond true l m = l
   laid-cond false l m = m

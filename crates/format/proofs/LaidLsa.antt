@@ -1,6 +1,6 @@
 -- The one walk over all bodies of both versions: where the entries of every LSA lie, which containers and kind 8 entries
 -- they have, and how they end.
-use Prim.Native.Nat.{ℕ, _+_, _-_, _*_, _%_, _≤_, _<_}
+use Prim.Native.Nat.{ℕ, _+_, _-_, _*_, _%_, _≤_}
 use native.Mathlib.Omega.{arith}
 use mathlib.Core.Path.{_≡_, refl, sym, ap, _∙_}
 use mathlib.Core.Bool.{Bool, true, false, cond}
@@ -10,11 +10,11 @@ use lib.ListN.{length, getD, drop, length-drop}
 use lib.Dec.{ltb, leb, eqb}
 use borrow.Author.Tests.{ltb-true, ltb-false, leb-true, le-ltb, eq-eqb}
 use Rattle.format.specs.Bytes.{be16At}
-use Rattle.format.specs.Strip.{Entry, container, u8At, bitAt, lowBitsAt, u16At, wide16At, metric24At, u32At, ip4At}
+use Rattle.format.specs.Strip.{Entry, u8At, u16At, wide16At, metric24At, u32At, ip4At}
 use Rattle.format.specs.Strip.Entry.{bytes}
 use Rattle.format.specs.Prefix.{octets, ip6At}
 use Rattle.format.specs.Cut.{Span, Rule, cut, after, standing, fixedRule, linkRule, prefixRule}
-use Rattle.format.specs.Header.{headerEntries2, headerEntries3, identityEntries2, identityEntries3, instanceEntries, opaqueEntries, isOpaque}
+use Rattle.format.specs.Header.{headerEntries2, headerEntries3, identityEntries2, instanceEntries, opaqueEntries, isOpaque}
 use Rattle.format.specs.Body.{Body, listing, listingIfAny, attachedRouter, whole, leftover, bodyEntries, bodyTail}
 use Rattle.format.specs.Body.Body.{decoded, raw}
 use Rattle.format.specs.V2 as v2

@@ -16,7 +16,7 @@ use Rattle.format.specs.Strip.{Entry}
 use Rattle.format.specs.Strip.Entry.{bytes}
 use Rattle.format.specs.Cut.{Span, Rule, cut, after, standing, fixedRule, recordRule}
 use Rattle.format.specs.Body.{whole}
-use Rattle.format.specs.Walks.{Outcome, unless, refusal, lsaEntries, lsaTail, headerObject, lsaObject, outer, unparsedId, headers, lsas, headersOf, updateOf, lsaOf, walkOf}
+use Rattle.format.specs.Walks.{unless, headerObject, lsaObject, outer, unparsedId, headers, lsas, headersOf, updateOf, lsaOf}
 use Rattle.format.specs.Walks.Outcome.{refused, accepted}
 use Rattle.format.specs.Laid.{Laid, among, anything, Ending}
 use Rattle.format.specs.Laid.Ending.{no-range, leaves, takes}

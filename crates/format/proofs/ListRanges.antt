@@ -1,14 +1,13 @@
 -- The links and prefixes of a strip are those of its LSAs' lists, and no others: where a body is too short for its list, and
 -- in every other type, there is none.
 use Prim.Native.Nat.{ℕ, zero, suc, _+_, _-_, _/_, _%_, _≤_, _<_}
-use native.Mathlib.Omega.{arith}
-use mathlib.Core.Path.{_≡_, refl, sym, ap, _∙_}
-use mathlib.Core.Bool.{Bool, true, false, cond}
+use mathlib.Core.Path.{_≡_, refl, sym, _∙_}
+use mathlib.Core.Bool.{Bool, true, false}
 use mathlib.Core.List.{List, [], _∷_, _++_, flatMap, append-nil, append-assoc}
 use mathlib.Core.Option.{Option, none, some}
 use lib.ListN.{length, getD, drop}
 use lib.Dec.{ltb, eqb}
-use borrow.Author.Tests.{ltb-false, eqb-true, eq-eqb, ne-eqb, lt-ltb, le-ltb}
+use borrow.Author.Tests.{ltb-false, eqb-true, ne-eqb, lt-ltb, le-ltb}
 use Rattle.format.specs.Bytes.{be16At, part}
 use Rattle.format.specs.Strip.{Entry, container, u8At, u16At, u32At, ip4At}
 use Rattle.format.specs.Cut.{Span, Rule, cut, after, fixedRule}
@@ -19,7 +18,7 @@ use Rattle.format.specs.Walks.{lsaEntries, lsaObject, outer, unparsedId,
 use Rattle.format.specs.Walks.Outcome.{accepted}
 use Rattle.format.specs.Shown.{Range, ranges, Shows}
 use Rattle.format.specs.Laid.{among}
-use Rattle.format.specs.Lists.{containers2, containers3, containers, taken, unparsed, linkRanges, prefixRanges, ofLsas}
+use Rattle.format.specs.Lists.{containers, taken, unparsed, linkRanges, prefixRanges, ofLsas}
 use Rattle.format.proofs.Unique.{span, cut-none, cut-some}
 use Rattle.format.proofs.Nested.{nested-fields, nested-append, nested-leftover, absent, ranges-append, ranges-container, ranges-flat}
 use Rattle.format.proofs.NestedLsa.{nested-header3}

@@ -4,7 +4,6 @@ use mathlib.Core.Path.{_≡_, refl}
 use mathlib.Core.Bool.{Bool, true}
 use mathlib.Core.List.{List, [], _∷_}
 use lib.Dec.{ltb, eqb}
-use Rattle.format.specs.Strip.{Entry}
 use Rattle.format.specs.Cut.{Span}
 use Rattle.format.specs.Header.{headerEntries2, headerEntries3}
 use Rattle.format.specs.Walks.{lsaEntries, headerEntries}
@@ -12,7 +11,8 @@ use Rattle.format.specs.Shown.{Nested}
 use Rattle.format.specs.Lists.{containers, unparsed, taken}
 use Rattle.format.proofs.Nested.{nested-cond}
 use Rattle.format.proofs.Laid.{all, all-among, all-cond, cond-same, laid-nested}
-use Rattle.format.proofs.LaidLsa.{linkInside as linkInsideLsa, prefixInside as prefixInsideLsa, laid-header2, laid-header3, laid-link-inside, laid-prefix-inside, laid-any}
+pub use Rattle.format.proofs.LaidLsa.{linkInside, prefixInside}
+use Rattle.format.proofs.LaidLsa.{laid-header2, laid-header3, laid-link-inside, laid-prefix-inside, laid-any}
 
 -- Ids below those of the walks' containers.
 abbrev pub below : ℕ → Bool
@@ -26,14 +26,8 @@ pub nested-header3 : (ok : ℕ → Bool) (b : List ℕ) (o : ℕ) → Nested ok 
 nested-header3 ok b o = laid-nested [] [] (λ i. all-among ok [] i refl) (laid-header3 b o)
 
 -- What is inside a link of version 2, and inside a prefix of version 3.
-abbrev pub linkInside : List ℕ → ℕ → Span → List Entry
-linkInside = linkInsideLsa
-
 pub nested-link-inside : (ok : ℕ → Bool) → ok 69 ≡ true → ok 97 ≡ true → (b : List ℕ) (o : ℕ) (s : Span) → Nested ok (linkInside b o s)
 nested-link-inside ok h k b o s = laid-nested (69 ∷ 97 ∷ []) [] (λ i. all-among ok (69 ∷ 97 ∷ []) i (rw (h, k))) (laid-link-inside b o refl refl s)
-
-abbrev pub prefixInside : Bool → List ℕ → ℕ → Span → List Entry
-prefixInside = prefixInsideLsa
 
 pub nested-prefix-inside : (ok : ℕ → Bool) (m : Bool) (b : List ℕ) (o : ℕ) (s : Span) → Nested ok (prefixInside m b o s)
 nested-prefix-inside ok m b o s = laid-nested [] [] (λ i. all-among ok [] i refl) (laid-prefix-inside b o m s)

@@ -1,7 +1,7 @@
 -- What each LSA holds, by its type and the length of its body: which containers and kind 8 entries, and where its links and
 -- its prefixes lie. The numbers are those of the requirements.
 use Prim.Native.Nat.{ℕ, _+_, _-_, _/_, _%_}
-use mathlib.Core.Bool.{Bool, true, false, cond}
+use mathlib.Core.Bool.{Bool, cond}
 use mathlib.Core.List.{List, [], _∷_, flatMap}
 use lib.ListN.{length, getD, drop}
 use lib.Dec.{ltb, eqb}
