@@ -14,9 +14,8 @@ use borrow.Author.Tests.{leb-true, le-leb}
 use Rattle.format.specs.Bytes.{be16At}
 use Rattle.format.specs.Prefix.{octets}
 use Rattle.format.specs.Cut.{Span, Rule, cut, after, Stands, IsCut, standing, recordRule, linkRule, prefixRule, fixedRule}
-use Rattle.format.specs.Header.{headerSize}
 use Rattle.format.specs.Cut.Stands.{done as no-more, next as one-more}
-use Rattle.format.specs.CutInto.{HeaderAt, RecordAt, LinkAt, PrefixAt, EndToEnd, CutInto}
+use Rattle.format.specs.CutInto.{FixedAt, RecordAt, LinkAt, PrefixAt, EndToEnd, CutInto}
 use Rattle.format.specs.CutInto.EndToEnd.{done, next}
 use Rattle.format.proofs.Rules.{Inside, inside}
 use Rattle.format.proofs.Unique.{cut-none, cut-some, is-cut, only}
@@ -41,10 +40,10 @@ record-stands b p n = (
 abbrev declaredFixed : ℕ → Rule
 declaredFixed n b p = some n
 
-pub header-stands : (b : List ℕ) (p n : ℕ) → (fixedRule headerSize b p ≡ some n) ↔ HeaderAt b p n
-header-stands b p n = (
-  λ e. let i = inside 20 (declaredFixed 20) b p n e in record { declared = sym (some-is (i .length-declared)); inside = i .within },
-  λ h. stands-where 20 (declaredFixed 20) b p n (ap some (sym (h .declared))) (omega (arith, h .declared)) (h .inside),
+pub fixed-stands-at : (one : ℕ) (b : List ℕ) (p n : ℕ) → (fixedRule one b p ≡ some n) ↔ FixedAt one b p n
+fixed-stands-at one b p n = (
+  λ e. let i = inside one (declaredFixed one) b p n e in record { declared = sym (some-is (i .length-declared)); inside = i .within },
+  λ h. stands-where one (declaredFixed one) b p n (ap some (sym (h .declared))) (omega (arith, h .declared)) (h .inside),
 )
 
 abbrev declaredLink : Rule

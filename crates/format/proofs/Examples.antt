@@ -14,7 +14,7 @@ use Rattle.format.specs.Body.Body.{decoded, raw}
 use Rattle.format.specs.V2.{link, linkTos, routerLsa2, body2, lsaEntries2, lsaTail2}
 use Rattle.format.specs.V3.{prefixFits, externalLsa3, tlvLsa, body3, lsaEntries3, lsaTail3, routerFlags, options}
 use Rattle.format.specs.Walks.{answer, answerOf, unless, headersOf, updateOf, lsaOf, outer, headerObject, lsaObject, lsaEntries, headerEntries}
-use Rattle.format.specs.Shown.{range, ranges}
+use Rattle.format.specs.Ranges.{range, ranges}
 
 abbrev zeros : ℕ → List ℕ
 zeros n = replicate n 0

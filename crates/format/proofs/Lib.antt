@@ -15,6 +15,8 @@ pub mod Sizes
 pub mod Newness
 pub mod Newer
 pub mod Examples
+pub mod Laid
+pub mod LaidLsa
 pub mod Nested
 pub mod NestedLsa
 pub mod Shown
@@ -22,6 +24,7 @@ pub mod Walks
 pub mod Host
 pub mod Refusals
 pub mod Steps
-pub mod Within
+pub mod LaidWalks
+pub mod ListRanges
 pub mod Part
 pub mod Program

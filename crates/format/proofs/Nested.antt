@@ -1,18 +1,24 @@
--- Laws of well-nested entries, and that every LSA's entries are such, with no object of a walk inside.
-use Prim.Native.Nat.{ℕ, _+_, _-_}
+-- Laws of well-nested entries, and of the ranges of containers.
+use Prim.Native.Nat.{ℕ, _+_}
 use native.Mathlib.Omega.{arith}
 use mathlib.Core.Path.{_≡_, refl, sym, ap, _∙_}
 use mathlib.Core.Bool.{Bool, true, false, cond}
-use mathlib.Core.List.{List, [], _∷_, _++_, flatMap, append-assoc}
+use mathlib.Core.List.{List, [], _∷_, _++_, flatMap, append-nil, append-assoc}
 use lib.ListN.{length}
 use lib.Dec.{eqb, ltb}
 use borrow.Author.Tests.{eqb-true}
 use Rattle.format.specs.Strip.{Entry, container}
 use Rattle.format.specs.Strip.Entry.{opens, closes, u8, u16, u32, ip4, ip6, bytes}
-use Rattle.format.specs.Cut.{Span, after}
-use Rattle.format.specs.Body.{listing, listingIfAny, leftover}
-use Rattle.format.specs.Shown.{range, opening, ranges, isField, Nested}
-use Rattle.format.specs.Shown.Nested.{none, field, group}
+use Rattle.format.specs.Cut.{Span}
+use Rattle.format.specs.Body.{leftover}
+use Rattle.format.specs.Ranges.{Range, range, opening, ranges}
+use Rattle.format.specs.Laid.{isField}
+
+-- Entries that are well nested: each opening has its close, and every container's id passes the test.
+pub data Nested (ok : ℕ → Bool) : List Entry → Type 0 where
+  none : Nested ok []
+  field : {x : Entry} {es : List Entry} → isField x ≡ true → Nested ok es → Nested ok (x ∷ es)
+  group : {inside es : List Entry} (i s e : ℕ) → ok i ≡ true → Nested ok inside → Nested ok es → Nested ok (opens i s e ∷ (inside ++ (closes ∷ es)))
 
 -- Whether all entries are fields.
 abbrev pub allFields : List Entry → Bool
@@ -32,24 +38,6 @@ module _ (ok : ℕ → Bool) where
   nested-append none n = n
   nested-append (field e m) n = field e (nested-append m n)
   nested-append {ys = ys} (group {inside} {es} i s e h m k) n = rw append-assoc (group i s e h m (nested-append k n))
-
-  pub nested-container : (i s e : ℕ) {inside : List Entry} → ok i ≡ true → Nested ok inside → Nested ok (container i s e inside)
-  unfolding container
-  nested-container i s e h n = group i s e h n none
-
-  pub nested-flat : (f : Span → List Entry) → ((s : Span) → Nested ok (f s)) → (ss : List Span) → Nested ok (flatMap f ss)
-  unfolding flatMap
-  nested-flat f h [] = none
-  nested-flat f h (s ∷ ss) = nested-append (h s) (nested-flat f h ss)
-
-  pub nested-listing : (i : ℕ) (f : Span → List Entry) (o p : ℕ) (ss : List Span) → ok i ≡ true → ((s : Span) → Nested ok (f s)) → Nested ok (listing i f o p ss)
-  unfolding listing
-  nested-listing i f o p ss h n = nested-container i _ _ h (nested-flat f n ss)
-
-  pub nested-listing-if : (i : ℕ) (f : Span → List Entry) (o p : ℕ) (ss : List Span) → ok i ≡ true → ((s : Span) → Nested ok (f s)) → Nested ok (listingIfAny i f o p ss)
-  unfolding listingIfAny
-  nested-listing-if i f o p [] h n = none
-  nested-listing-if i f o p (s ∷ ss) h n = nested-listing i f o p (s ∷ ss) h n
 
   -- a choice between two well-nested lists
   pub nested-cond : (t : Bool) {xs ys : List Entry} → Nested ok xs → Nested ok ys → Nested ok (cond t xs ys)
@@ -87,3 +75,14 @@ absent {ok} i h (group {inside} {es} j s e g m n) = go (eqb i j) refl (absent i 
     go : (t : Bool) → eqb i j ≡ t → ranges i inside ≡ [] → ranges i es ≡ [] → cond t (range s e ∷ []) [] ++ ranges i (inside ++ (closes ∷ es)) ≡ []
     go true q u v = let p = eqb-true i j q in let z : _≡_ {A = Bool} true false = sym g ∙ (ap ok (sym p) ∙ h) in let y : _≡_ {A = ℕ} 0 1 = cc in absurd (omega arith)
     go false q u v = ranges-append i inside (closes ∷ es) ∙ rw (u, v)
+
+-- The ranges of a container: its own, if it has the id, and those inside it.
+pub ranges-container : (i j s e : ℕ) (inside : List Entry) → ranges i (container j s e inside) ≡ cond (eqb i j) (range s e ∷ []) [] ++ ranges i inside
+unfolding ranges container
+ranges-container i j s e inside = ap (λ (x : List Range). cond (eqb i j) (range s e ∷ []) [] ++ x) (ranges-append i inside (closes ∷ []) ∙ append-nil (ranges i inside))
+
+-- The ranges of lists of entries one after another.
+pub ranges-flat : (i : ℕ) (f : Span → List Entry) (ss : List Span) → ranges i (flatMap f ss) ≡ flatMap (λ (s : Span). ranges i (f s)) ss
+unfolding ranges flatMap
+ranges-flat i f [] = refl
+ranges-flat i f (s ∷ ss) = ranges-append i (f s) (flatMap f ss) ∙ ap (λ (x : List Range). ranges i (f s) ++ x) (ranges-flat i f ss)

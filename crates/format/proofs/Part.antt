@@ -15,17 +15,18 @@ use Rattle.format.specs.Bytes.{part}
 use Rattle.format.specs.Strip.{Entry, Step, encode, stepAt, readFrom, readAll}
 use Rattle.format.specs.Strip.Entry.{bytes}
 use Rattle.format.specs.Strip.Step.{entry, end, refused}
-use Rattle.format.specs.Cut.{after, recordRule}
 use Rattle.format.specs.Header.{headerSize}
-use Rattle.format.specs.Body.{whole}
 use Rattle.format.specs.Walks.{answerOf, stripOf, unless, refusal, lsaEntries, headerObject, lsaObject, outer, headers, lsas, headersOf, updateOf, lsaOf}
 use Rattle.format.specs.Walks.Outcome.{accepted, refused as refusing}
+use Rattle.format.specs.Laid.{Laid, anything}
 use Rattle.format.specs.Part.{liesIn, partNumber, partPlace, partOf, Names, Reads, GivesBack}
 use Rattle.format.specs.Part.Reads.{ends, steps}
 use Rattle.format.specs.Refusals.{Parts}
 use Rattle.format.proofs.Shown.{read-strip}
 use Rattle.format.proofs.Refusals.{limits, not-le}
-use Rattle.format.proofs.Within.{Within, within-member, within-cut, within-items, within-outer, within-header-object, within-lsa-object, within-lsa}
+use Rattle.format.proofs.Laid.{weaken, laid-member}
+use Rattle.format.proofs.LaidLsa.{laid-lsa}
+use Rattle.format.proofs.LaidWalks.{laid-headers, laid-update}
 
 -- What the test says of the numbers.
 pub record Lies (n offset start end : ℕ) : Type 0 where
@@ -137,38 +138,34 @@ reads-from (suc k) s p es h = go (stepAt s p) refl h (reads-from k s)
     go (refused n) e h ih = let z : _≡_ {A = ℕ} 0 1 = cc in absurd (omega arith)
 
 -- A call with no refusal leaves a strip that reads as the walk's entries.
-gives-back : (d : List ℕ) (o n : ℕ) (es : List Entry) (r t : ℕ) (before : List ℕ) → (n ≡ 0 → Within o (o + length d) es)
+gives-back : (d : List ℕ) (o n : ℕ) (es : List Entry) (r t : ℕ) (before : List ℕ) → (n ≡ 0 → Laid anything o (o + length d) es)
     → answerOf (unless n (accepted es r t)) (length before) .number ≡ 0
     → GivesBack d o (take (answerOf (unless n (accepted es r t)) (length before) .size) (stripOf (unless n (accepted es r t)) before)) es
 unfolding unless answerOf stripOf readAll
 gives-back d o n es r t before w h = go (eqb n 0) refl (ltb (length before) (length (encode es))) refl h
   where
     named : n ≡ 0 → (i s e : ℕ) → List·Memᴰ (bytes i s e) es → Names d o s e
-    named z i s e m = let l = within-member i s e (w z) m in names d o s e (record { from = l .0; ordered = l .1; to = l .2 })
+    named z i s e m = let l = laid-member (bytes i s e) (λ q. let y : _≡_ {A = ℕ} 0 1 = cc in omega arith) (w z) m in names d o s e (record { from = l .from; ordered = l .ordered; to = l .to })
 
     go : (x : Bool) → eqb n 0 ≡ x → (y : Bool) → ltb (length before) (length (encode es)) ≡ y → answerOf (cond x (accepted es r t) (refusing n)) (length before) .number ≡ 0
         → GivesBack d o (take (answerOf (unless n (accepted es r t)) (length before) .size) (stripOf (unless n (accepted es r t)) before)) es
-    go true p false q h = rw (p, q) (record { reads = reads-from _ _ 0 es (read-strip es before (ltb-false _ _ q)); parts = named (eqb-true n 0 p) })
+    go true p false q h = rw (p, q) (record { reads = reads-from _ _ 0 es (read-strip es before (ltb-false _ _ q)); laid = w (eqb-true n 0 p); parts = named (eqb-true n 0 p) })
     go true p true q h = let z = rw q at h in absurd (omega arith)
     go false p y q h = absurd (eqb-false n 0 p h)
 
 -- Every accepted walk.
 pub headers-give-back : (v : ℕ) (d : List ℕ) (o : ℕ) (before : List ℕ) → answerOf (headersOf v d o) (length before) .number ≡ 0
     → GivesBack d o (take (answerOf (headersOf v d o) (length before) .size) (stripOf (headersOf v d o) before)) (outer v (headerObject v d o) d o 0 (headers d))
-unfolding headersOf whole
-headers-give-back v d o before h =
-    gives-back d o (refusal v d o 0) _ _ _ before
-    (λ z. within-outer v (headerObject v d o) d o 0 (headers d) (within-items (headerObject v d o) _ d _ 0 (within-header-object v d o))) h
+unfolding headersOf
+headers-give-back v d o before h = gives-back d o (refusal v d o 0) _ _ _ before (λ z. laid-headers v d o) h
 
 pub update-gives-back : (v : ℕ) (d : List ℕ) (count o : ℕ) (before : List ℕ) → answerOf (updateOf v d count o) (length before) .number ≡ 0
     → GivesBack d o (take (answerOf (updateOf v d count o) (length before) .size) (stripOf (updateOf v d count o) before)) (outer v (lsaObject v d o) d o 4 (lsas d count))
 unfolding updateOf
-update-gives-back v d count o before h =
-    gives-back d o (refusal v d o 4) _ _ _ before
-    (λ z. within-outer v (lsaObject v d o) d o 4 (lsas d count) (within-cut recordRule d (lsaObject v d o) (within-lsa-object v d o) count 4)) h
+update-gives-back v d count o before h = gives-back d o (refusal v d o 4) _ _ _ before (λ z. laid-update v d count o (limits v d o 4 z .enough)) h
 
 pub lsa-gives-back : (v : ℕ) (d : List ℕ) (o : ℕ) (before : List ℕ) → answerOf (lsaOf v d o) (length before) .number ≡ 0
     → GivesBack d o (take (answerOf (lsaOf v d o) (length before) .size) (stripOf (lsaOf v d o) before)) (lsaEntries v d o)
 unfolding lsaOf
 lsa-gives-back v d o before h =
-    gives-back d o (refusal v d o headerSize) _ _ _ before (λ z. within-lsa v d o (limits v d o headerSize z .enough)) h
+    gives-back d o (refusal v d o headerSize) _ _ _ before (λ z. weaken (λ x k. refl) (laid-lsa v d o (limits v d o headerSize z .enough))) h

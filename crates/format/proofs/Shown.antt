@@ -13,7 +13,7 @@ use lib.Dec.{eqb}
 use borrow.Author.Tests.{le-ltb, lt-ltb, eq-eqb}
 use Rattle.format.specs.Bytes.{be16At, be32At}
 use Rattle.format.specs.Strip.{Entry, encode, readAll, container, u8At, u16At, u32At, wide16At}
-use Rattle.format.specs.Strip.Entry.{closes, bytes}
+use Rattle.format.specs.Strip.Entry.{bytes}
 use Rattle.format.specs.Prefix.{ip6At}
 use Rattle.format.specs.Cut.{Span, Rule, cut, after, linkRule, prefixRule}
 use Rattle.format.specs.Header.{headerSize, headerEntries2, headerEntries3}
@@ -21,17 +21,13 @@ use Rattle.format.specs.Body.{listing, leftover, bodyEntries, bodyTail}
 use Rattle.format.specs.V2 as v2
 use Rattle.format.specs.V3 as v3
 use Rattle.format.specs.Walks.{lsaEntries, lsaTail, headers}
-use Rattle.format.specs.Shown.{Range, range, ranges, placed, Nested, Shows, Listed, LsaShows}
+use Rattle.format.specs.Ranges.{Range, range, ranges, placed}
+use Rattle.format.specs.Shown.{Shows, Listed, LsaShows}
 use Rattle.format.proofs.Read.{read-encode}
 use Rattle.format.specs.CutInto.{LinkAt, PrefixAt}
 use Rattle.format.proofs.CutInto.{cut-ends, cut-into, only-cut, link-stands, prefix-stands}
-use Rattle.format.proofs.Nested.{nested-fields, nested-append, nested-leftover, absent, ranges-append}
+use Rattle.format.proofs.Nested.{Nested, nested-fields, nested-append, nested-leftover, absent, ranges-append, ranges-container}
 use Rattle.format.proofs.NestedLsa.{nested-header2, nested-header3, linkInside, nested-link-inside, prefixInside, nested-prefix-inside}
-
--- The ranges of a container: its own, if it has the id, and those inside it.
-ranges-container : (i j s e : ℕ) (inside : List Entry) → ranges i (container j s e inside) ≡ cond (eqb i j) (range s e ∷ []) [] ++ ranges i inside
-unfolding ranges container
-ranges-container i j s e inside = ap (λ (x : List Range). cond (eqb i j) (range s e ∷ []) [] ++ x) (ranges-append i inside (closes ∷ []) ∙ append-nil (ranges i inside))
 
 -- An array of containers, seen by an id that is neither theirs nor inside them, or by theirs.
 module _ (o item : ℕ) (inside : Span → List Entry) where
@@ -93,7 +89,7 @@ module _ (r : Rule) (b : List ℕ) (standsAt : ℕ → ℕ → Type 0) (says : (
         rest-some = λ z. leftover-some unparsed b o (after first ss) (omega arith);
       }
 
-listed : {standsAt : ℕ → ℕ → Type 0} {size count first o array item unparsed end tail : ℕ} {spans : List Span} {before es : List Entry} {held : Span → List Entry}
+pub listed : {standsAt : ℕ → ℕ → Type 0} {size count first o array item unparsed end tail : ℕ} {spans : List Span} {before es : List Entry} {held : Span → List Entry}
     → Shows standsAt size count first o array item unparsed spans end tail before held es → Listed standsAt size count first o array item unparsed es tail
 listed {end = end} {spans = spans} {before = before} {held = held} h = record { spans = spans; end = end; before = before; held = held; shows = h }
 

@@ -6,24 +6,28 @@ use mathlib.Core.Bool.{Bool, true, false, cond}
 use mathlib.Core.List.{List, []}
 use lib.ListN.{length, take, length-map, length-append}
 use lib.Seq.{sets, length-take-le, length-sets}
-use lib.Dec.{eqb, leb, ltb}
-use borrow.Author.Tests.{ltb-true, ltb-false, le-leb, eqb-true, eqb-false}
+use lib.Dec.{eqb, ltb}
+use borrow.Author.Tests.{ltb-false, eqb-true, eqb-false}
 use Rattle.format.specs.Bytes.{part}
-use Rattle.format.specs.Strip.{Entry, code, encode, container}
+use Rattle.format.specs.Strip.{Entry, code, encode}
 use Rattle.format.specs.Cut.{Span, cut, after, recordRule, fixedRule}
-use Rattle.format.specs.CutInto.{HeaderAt, RecordAt}
+use Rattle.format.specs.CutInto.{FixedAt, RecordAt}
 use Rattle.format.specs.Header.{headerSize, headerEntries2, headerEntries3}
 use Rattle.format.specs.Body.{listing, leftover, whole}
 use Rattle.format.specs.V2.{lsaEntries2}
 use Rattle.format.specs.V3.{lsaEntries3}
 use Rattle.format.specs.Walks.{answer, answerOf, stripOf, unless, refusal, headersOf, updateOf, lsaOf, lsaEntries, lsaTail, headerEntries, lsaObject, headerObject, outer, unparsedId, lsas, headers}
 use Rattle.format.specs.Walks.Outcome.{refused, accepted}
-use Rattle.format.specs.Shown.{own, unparsedOf, Nested, UpdateShows, OneShows, HeadersShow}
-use Rattle.format.specs.Shown.Nested.{none, field, group}
-use Rattle.format.proofs.Nested.{nested-append, nested-listing, nested-container, nested-leftover}
+use Rattle.format.specs.Shown.{own, UpdateShows, OneShows, HeadersShow}
+use Rattle.format.specs.Lists.{unparsed}
+use Rattle.format.proofs.Nested.{Nested}
+use Rattle.format.proofs.Nested.Nested.{none}
+use Rattle.format.proofs.LaidLsa.{laid-lsa}
+use Rattle.format.proofs.LaidWalks.{laid-headers, laid-update, lsa-ending}
+use Rattle.format.proofs.ListRanges.{link-ranges, prefix-ranges, update-links, update-prefixes}
 use Rattle.format.proofs.NestedLsa.{below, nested-lsa, nested-header}
 use Rattle.format.proofs.Shown.{shows, lsa-shows, read-strip}
-use Rattle.format.proofs.CutInto.{cut-ends, record-stands, header-stands}
+use Rattle.format.proofs.CutInto.{cut-ends, record-stands, fixed-stands-at}
 use Rattle.format.proofs.Refusals.{limits}
 use Rattle.format.proofs.Lists.{length-listing, whole-after}
 use Rattle.format.proofs.Wrote.{encode-append}
@@ -64,25 +68,6 @@ lsa-longer v d o = go (eqb v 2)
     go true = omega arith
     go false = omega arith
 
--- Entries that are well nested stay so where more ids pass.
-nested-wider : {ok more : ℕ → Bool} {es : List Entry} → ((i : ℕ) → ok i ≡ true → more i ≡ true) → Nested ok es → Nested more es
-nested-wider h none = none
-nested-wider h (field e n) = field e (nested-wider h n)
-nested-wider h (group i s e g m n) = group i s e (h i g) (nested-wider h m) (nested-wider h n)
-
--- An outer array of objects, and the tail after it.
-known : ℕ → Bool
-known i = leb i 114
-
-nested-outer : (v : ℕ) (d : List ℕ) (o item p : ℕ) (ss : List Span) → leb item 114 ≡ true → (held : Span → List Entry) → ((s : Span) → Nested below (held s))
-    → Nested (λ i. leb i 114) (outer v (λ (s : Span). container item (o + s .at) (o + s .at + s .len) (held s)) d o p ss)
-unfolding outer known
-nested-outer v d o item p ss h held n =
-    nested-append known
-    (nested-listing known 114 (λ (s : Span). container item (o + s .at) (o + s .at + s .len) (held s)) o p ss refl
-    (λ s. nested-container known item _ _ h (nested-wider (λ i l. le-leb i 114 (let z = ltb-true i 112 l in omega arith)) (n s))))
-    (nested-leftover known (unparsedId v) d o (after p ss))
-
 -- Every accepted update shows the cut of its records, and each record the lists inside it.
 pub update-shows : (v : ℕ) (d : List ℕ) (count o : ℕ) (before : List ℕ) → answerOf (updateOf v d count o) (length before) .number ≡ 0
     → UpdateShows v d count o (take (answerOf (updateOf v d count o) (length before) .size) (stripOf (updateOf v d count o) before))
@@ -94,13 +79,15 @@ update-shows v d count o before h =
     let held : Span → List Entry = λ (s : Span). lsaEntries v (own d s) (o + s .at) in
     let nested : (s : Span) → Nested below (held s) = λ s. nested-lsa v (own d s) (o + s .at) in
     let ends = cut-ends recordRule d (λ p n e. record-stands d p n .0 e .inside) count 4 (limits v d o 4 (k .not-refused) .enough) in
-    let sh = shows recordRule d (RecordAt d) (record-stands d) count 4 ends o 114 113 (unparsedOf v) held below refl refl refl refl nested [] none es (length d - after 4 (lsas d count)) refl refl in
+    let sh = shows recordRule d (RecordAt d) (record-stands d) count 4 ends o 114 113 (unparsed v) held below refl refl refl refl nested [] none es (length d - after 4 (lsas d count)) refl refl in
     rw (k .answered, k .written) (record {
       entries = es;
       spans = lsas d count;
       end = after 4 (lsas d count);
       read = read-strip es before (k .fits);
-      nested = nested-outer v d o 113 4 (lsas d count) refl held nested;
+      laid = laid-update v d count o (limits v d o 4 (k .not-refused) .enough);
+      links = update-links v d count o;
+      prefixes = λ e. rw e (update-prefixes d count o);
       shows = sh;
       lists = λ s. (lsaTail v (own d s), lsa-shows v (own d s) (o + s .at));
       counted = refl;
@@ -119,7 +106,10 @@ one-shows v d o before h =
     rw (k .answered, k .written) (record {
       entries = es;
       read = read-strip es before (k .fits);
-      nested = nested-lsa v d o;
+      laid = laid-lsa v d o (limits v d o 20 (k .not-refused) .enough);
+      links = link-ranges v d o;
+      prefixes = λ e. rw e (prefix-ranges d o);
+      ending = lsa-ending v d o (limits v d o 20 (k .not-refused) .enough);
       holds = refl;
       lists = lsa-shows v d o;
       counted = refl;
@@ -137,15 +127,15 @@ headers-show v d o before h =
     let held : Span → List Entry = λ (s : Span). headerEntries v (own d s) (o + s .at) in
     let nested : (s : Span) → Nested below (held s) = λ s. nested-header v (own d s) (o + s .at) in
     let q : length d - 0 ≡ length d = omega arith in
-    let ends = cut-ends (fixedRule headerSize) d (λ p n e. header-stands d p n .0 e .inside) (length d / 20) 0 (omega arith) in
+    let ends = cut-ends (fixedRule headerSize) d (λ p n e. fixed-stands-at 20 d p n .0 e .inside) (length d / 20) 0 (omega arith) in
     let a = whole-after headerSize d 0 (omega arith) in
-    let sh = shows (fixedRule headerSize) d (HeaderAt d) (header-stands d) (length d / 20) 0 ends o 114 112 (unparsedOf v) held below refl refl refl refl nested [] none es (length d - after 0 (headers d)) (rw q) (rw q) in
+    let sh = shows (fixedRule headerSize) d (FixedAt 20 d) (fixed-stands-at 20 d) (length d / 20) 0 ends o 114 112 (unparsed v) held below refl refl refl refl nested [] none es (length d - after 0 (headers d)) (rw q) (rw q) in
     rw (k .answered, k .written) (record {
       entries = es;
       spans = cut (fixedRule headerSize) d (length d / 20) 0;
       end = after 0 (cut (fixedRule headerSize) d (length d / 20) 0);
       read = read-strip es before (k .fits);
-      nested = nested-outer v d o 112 0 (headers d) refl held nested;
+      laid = laid-headers v d o;
       shows = sh;
       all-whole = omega arith;
       counted = rw q refl;

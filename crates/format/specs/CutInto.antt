@@ -6,9 +6,9 @@ use mathlib.Core.List.{List, [], _∷_, List·Memᴰ}
 use lib.ListN.{length, getD}
 use Rattle.format.specs.Cut.{Span}
 
--- A header of n bytes stands at p: n is 20, and it lies in the body.
-pub record HeaderAt (b : List ℕ) (p n : ℕ) : Type 0 where
-  pub declared : n ≡ 20
+-- An entry of n bytes stands at p, in a list whose entries all have one length, as headers have 20: it lies in the body.
+pub record FixedAt (one : ℕ) (b : List ℕ) (p n : ℕ) : Type 0 where
+  pub declared : n ≡ one
   pub inside : p + n ≤ length b
 
 -- An LSA of n bytes stands at p: n is the length that it declares, in 16 bits at 18 (RFC 2328 A.4.1, RFC 5340 A.4.2), it

@@ -10,6 +10,9 @@ pub mod Body
 pub mod V2
 pub mod V3
 pub mod Walks
+pub mod Ranges
+pub mod Laid
+pub mod Lists
 pub mod Shown
 pub mod Part
 pub mod Refusals

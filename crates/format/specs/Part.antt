@@ -9,6 +9,7 @@ use Rattle.format.specs.Bytes.{part}
 use Rattle.format.specs.Strip.{Entry, stepAt}
 use Rattle.format.specs.Strip.Entry.{bytes}
 use Rattle.format.specs.Strip.Step.{entry, end}
+use Rattle.format.specs.Laid.{Laid, anything}
 
 -- Whether the places from start to end lie in a packet of n bytes whose first byte is at the place offset.
 unfoldable pub liesIn : (n offset start end : ℕ) → Bool
@@ -40,7 +41,9 @@ pub data Reads (strip : List ℕ) : (place : ℕ) → List Entry → Type 0 wher
   ends : {p : ℕ} → stepAt strip p ≡ end → Reads strip p []
   steps : {p q : ℕ} {x : Entry} {es : List Entry} → stepAt strip p ≡ entry x q → Reads strip q es → Reads strip p (x ∷ es)
 
--- A strip reads as the entries es, and each of those of kind 8 names a part of the data d at the place o.
+-- A strip reads as the entries es, which are laid out in the places of the data d at the place o; and each of those of kind
+-- 8 names a part of the data.
 pub record GivesBack (d : List ℕ) (o : ℕ) (strip : List ℕ) (es : List Entry) : Type 0 where
   pub reads : Reads strip 0 es
+  pub laid : Laid anything o (o + length d) es
   pub parts : (i s e : ℕ) → List·Memᴰ (bytes i s e) es → Names d o s e

@@ -1,62 +1,22 @@
 -- How a strip shows the cut of a list: one array, with one container for each span, and the tail after it.
 use Prim.Native.Nat.{ℕ, _+_, _/_, _%_, _≤_, _<_}
 use mathlib.Core.Path.{_≡_}
-use mathlib.Core.Bool.{Bool, true, false, cond}
-use mathlib.Core.List.{List, [], _∷_, _++_, map, flatMap}
+use mathlib.Core.Bool.{cond}
+use mathlib.Core.List.{List, [], _∷_, _++_, flatMap}
 use mathlib.Core.Option.{some}
 use lib.ListN.{length, getD, take, drop}
-use lib.Dec.{leb, ltb, eqb}
+use lib.Dec.{eqb}
 use Rattle.format.specs.Bytes.{be16At, be32At}
 use Rattle.format.specs.Strip.{Entry, container, readAll}
-use Rattle.format.specs.Strip.Entry.{opens, closes, u8, u16, u32, ip4, ip6, bytes}
+use Rattle.format.specs.Strip.Entry.{bytes}
 use Rattle.format.specs.Cut.{Span}
-use Rattle.format.specs.CutInto.{CutInto, HeaderAt, RecordAt, LinkAt, PrefixAt}
+use Rattle.format.specs.Ranges.{Range, range, ranges, placed}
+use Rattle.format.specs.Laid.{Laid, anything, Ending}
+use Rattle.format.specs.Lists.{containers, taken, unparsed, holds, linkRanges, prefixRanges}
+use Rattle.format.specs.CutInto.{CutInto, FixedAt, RecordAt, LinkAt, PrefixAt}
 use Rattle.format.specs.Header.{headerEntries2, headerEntries3}
 use Rattle.format.specs.V2.{lsaEntries2}
 use Rattle.format.specs.V3.{lsaEntries3}
-
--- Where a container begins and ends.
-pub record Range : Type 0 where
-  pub start : ℕ
-  pub end : ℕ
-
-abbrev pub range : ℕ → ℕ → Range
-range s e = record { start = s; end = e }
-
-abbrev pub opening : ℕ → Entry → List Range
-opening i (opens j s e) = cond (eqb i j) (range s e ∷ []) []
-opening i closes = []
-opening i (u8 j s e v) = []
-opening i (u16 j s e v) = []
-opening i (u32 j s e v) = []
-opening i (ip4 j s e a) = []
-opening i (ip6 j s e h l) = []
-opening i (bytes j s e) = []
-
--- The ranges of the containers with this id, in their order.
-unfoldable pub ranges : ℕ → List Entry → List Range
-ranges i [] = []
-ranges i (x ∷ xs) = opening i x ++ ranges i xs
-
--- The ranges of spans of a body whose first byte is at the place o.
-abbrev pub placed : ℕ → List Span → List Range
-placed o ss = map (λ (s : Span). range (o + s .at) (o + s .at + s .len)) ss
-
--- Entries that are well nested: each opening has its close, and every container's id passes the test.
-abbrev pub isField : Entry → Bool
-isField (opens i s e) = false
-isField closes = false
-isField (u8 i s e v) = true
-isField (u16 i s e v) = true
-isField (u32 i s e v) = true
-isField (ip4 i s e a) = true
-isField (ip6 i s e h l) = true
-isField (bytes i s e) = true
-
-pub data Nested (ok : ℕ → Bool) : List Entry → Type 0 where
-  none : Nested ok []
-  field : {x : Entry} {es : List Entry} → isField x ≡ true → Nested ok es → Nested ok (x ∷ es)
-  group : {inside es : List Entry} (i s e : ℕ) → ok i ≡ true → Nested ok inside → Nested ok es → Nested ok (opens i s e ∷ (inside ++ (closes ∷ es)))
 
 -- The entries es show the cut of a list, in a body of `size` bytes whose first byte is at the place o. The spans, which end
 -- at `end`, and the tail are its cut, and the only one. The containers with the items' id are the spans, in order; the one
@@ -94,12 +54,9 @@ pub record LsaShows (v : ℕ) (d : List ℕ) (o : ℕ) (es : List Entry) (tail :
   pub area-prefixes : v ≡ 3 → be16At d 2 % 8192 ≡ 9 → 12 ≤ length (drop 20 d)
       → Listed (PrefixAt (drop 20 d)) (length (drop 20 d)) (be16At (drop 20 d) 0) 12 (o + 20) 29 97 33 es tail
 
--- The bytes of a span, and the id of unparsed bytes.
+-- The bytes of a span.
 abbrev pub own : List ℕ → Span → List ℕ
 own d s = take (s .len) (drop (s .at) d)
-
-abbrev pub unparsedOf : ℕ → ℕ
-unparsedOf v = cond (eqb v 2) 25 33
 
 -- An accepted update: its strip reads as entries, well nested, that show the cut of its records; each record's object
 -- holds the entries of that LSA's own bytes at its own place, which show the lists inside it; and the answer's records are
@@ -109,8 +66,10 @@ pub record UpdateShows (v : ℕ) (d : List ℕ) (count o : ℕ) (strip : List �
   pub spans : List Span
   pub end : ℕ
   pub read : readAll strip ≡ some entries
-  pub nested : Nested (λ i. leb i 114) entries
-  pub shows : Shows (RecordAt d) (length d) count 4 o 114 113 (unparsedOf v) spans end tail [] (λ s. cond (eqb v 2) (lsaEntries2 (own d s) (o + s .at)) (lsaEntries3 (own d s) (o + s .at))) entries
+  pub laid : Laid anything o (o + length d) entries
+  pub shows : Shows (RecordAt d) (length d) count 4 o 114 113 (unparsed v) spans end tail [] (λ s. cond (eqb v 2) (lsaEntries2 (own d s) (o + s .at)) (lsaEntries3 (own d s) (o + s .at))) entries
+  pub links : ranges 96 entries ≡ flatMap (λ (s : Span). linkRanges v (own d s) (o + s .at)) spans
+  pub prefixes : v ≡ 3 → ranges 97 entries ≡ flatMap (λ (s : Span). prefixRanges (own d s) (o + s .at)) spans
   pub lists : (s : Span) → (t : ℕ) × LsaShows v (own d s) (o + s .at) (cond (eqb v 2) (lsaEntries2 (own d s) (o + s .at)) (lsaEntries3 (own d s) (o + s .at))) t
   pub counted : records ≡ length spans
   pub objects-counted : length (ranges 113 entries) ≡ records
@@ -120,9 +79,12 @@ pub record UpdateShows (v : ℕ) (d : List ℕ) (count o : ℕ) (strip : List �
 pub record OneShows (v : ℕ) (d : List ℕ) (o : ℕ) (strip : List ℕ) (records tail : ℕ) : Type 0 where
   pub entries : List Entry
   pub read : readAll strip ≡ some entries
-  pub nested : Nested (λ i. ltb i 112) entries
+  pub laid : Laid (holds v d) o (o + length d) entries
   pub holds : entries ≡ cond (eqb v 2) (lsaEntries2 d o) (lsaEntries3 d o)
+  pub links : ranges 96 entries ≡ linkRanges v d o
+  pub prefixes : v ≡ 3 → ranges 97 entries ≡ prefixRanges d o
   pub lists : LsaShows v d o entries tail
+  pub ending : Ending (containers v d) (taken v) (unparsed v) o (o + length d) entries tail
   pub counted : records ≡ 1
   pub longer : 0 < length strip
 
@@ -133,8 +95,8 @@ pub record HeadersShow (v : ℕ) (d : List ℕ) (o : ℕ) (strip : List ℕ) (re
   pub spans : List Span
   pub end : ℕ
   pub read : readAll strip ≡ some entries
-  pub nested : Nested (λ i. leb i 114) entries
-  pub shows : Shows (HeaderAt d) (length d) (length d / 20) 0 o 114 112 (unparsedOf v) spans end tail [] (λ s. cond (eqb v 2) (headerEntries2 (own d s) (o + s .at)) (headerEntries3 (own d s) (o + s .at))) entries
+  pub laid : Laid anything o (o + length d) entries
+  pub shows : Shows (FixedAt 20 d) (length d) (length d / 20) 0 o 114 112 (unparsed v) spans end tail [] (λ s. cond (eqb v 2) (headerEntries2 (own d s) (o + s .at)) (headerEntries3 (own d s) (o + s .at))) entries
   pub all-whole : tail < 20
   pub counted : records ≡ length spans
   pub objects-counted : length (ranges 112 entries) ≡ records

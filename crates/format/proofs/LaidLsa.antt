@@ -1,0 +1,359 @@
+-- The one walk over all bodies of both versions: where the entries of every LSA lie, which containers and kind 8 entries
+-- they have, and how they end.
+use Prim.Native.Nat.{ℕ, _+_, _-_, _*_, _%_, _≤_}
+use native.Mathlib.Omega.{arith}
+use mathlib.Core.Path.{_≡_, refl, sym, ap, _∙_}
+use mathlib.Core.Bool.{Bool, true, false, cond}
+use mathlib.Core.List.{List, [], _∷_, _++_, append-nil, append-assoc}
+use mathlib.Core.Option.{Option, none as nothing, some}
+use lib.ListN.{length, getD, drop, length-drop}
+use lib.Dec.{ltb, leb, eqb}
+use borrow.Author.Tests.{ltb-true, ltb-false, leb-true, le-ltb, eq-eqb}
+use Rattle.format.specs.Bytes.{be16At}
+use Rattle.format.specs.Strip.{Entry, u8At, u16At, wide16At, metric24At, u32At, ip4At}
+use Rattle.format.specs.Strip.Entry.{bytes}
+use Rattle.format.specs.Prefix.{octets, ip6At}
+use Rattle.format.specs.Cut.{Span, Rule, cut, after, standing, fixedRule, linkRule, prefixRule}
+use Rattle.format.specs.Header.{headerEntries2, headerEntries3, identityEntries2, instanceEntries, opaqueEntries, isOpaque}
+use Rattle.format.specs.Body.{Body, listing, listingIfAny, attachedRouter, whole, leftover, bodyEntries, bodyTail}
+use Rattle.format.specs.Body.Body.{decoded, raw}
+use Rattle.format.specs.V2 as v2
+use Rattle.format.specs.V3 as v3
+use Rattle.format.specs.Walks.{lsaEntries, lsaTail}
+use Rattle.format.specs.Laid.{start, end, Laid, among, only, Ending}
+use Rattle.format.specs.Laid.Laid.{none}
+use Rattle.format.specs.Laid.Ending.{no-range, leaves, takes}
+use Rattle.format.specs.Lists.{from, containers2, containers3, containers, taken, unparsed, holds}
+use Rattle.format.proofs.Unique.{span}
+use Rattle.format.proofs.Rules.{inside}
+use Rattle.format.proofs.Laid.{allHave, AllIn, cut-inside, fixed-length, fixed-end, after-from, widen, laid-fields, laid-append, laid-container, laid-cond, laid-listing, laid-listing-if, weaken, only-more}
+
+-- What is inside a link of version 2, and inside a prefix of version 3.
+abbrev pub linkInside : List ℕ → ℕ → Span → List Entry
+linkInside b o s = v2.linkFields b o (s .at) ++ listingIfAny 69 (v2.linkTos b o) o (s .at + 12) (v2.linkTosSpans b (s .at))
+
+abbrev pub prefixInside : Bool → List ℕ → ℕ → Span → List Entry
+prefixInside m b o s =
+    u8At 80 b o (s .at) ∷ u8At 81 b o (s .at + 1) ∷ (cond m (u16At 82 b o (s .at + 2) ∷ []) [] ++ (ip6At 83 b o (s .at + 4) (s .len - 4) ∷ []))
+
+-- Headers, and the items of lists, by the containers c and the ranges r that are allowed.
+module _ {c r : List ℕ} (b : List ℕ) (o : ℕ) where
+  pub laid-header2 : Laid (only c r) o (o + 20) (headerEntries2 b o)
+  unfolding headerEntries2
+  laid-header2 =
+      laid-append (laid-fields (identityEntries2 b o) refl (omega arith))
+      (laid-append (laid-fields (instanceEntries 5 b o) refl (omega arith))
+      (laid-cond (isOpaque (getD b 3 0)) {xs = opaqueEntries b o} (laid-fields _ refl (omega arith)) none))
+
+  pub laid-header3 : Laid (only c r) o (o + 20) (headerEntries3 b o)
+  unfolding headerEntries3
+  laid-header3 = laid-fields _ refl (omega arith)
+
+  laid-attached : (p n : ℕ) → fixedRule 4 b p ≡ some n → Laid (only c r) (o + p) (o + p + n) (attachedRouter b o (span p n))
+  unfolding attachedRouter
+  laid-attached p n e = let q = fixed-length 4 b p n e in laid-fields _ refl (omega arith)
+
+  pub laid-prefix-inside : (m : Bool) (s : Span) → Laid (only c r) (o + s .at) (o + (s .at + 4) + (s .len - 4)) (prefixInside m b o s)
+  laid-prefix-inside m s =
+      laid-append {xs = u8At 80 b o (s .at) ∷ u8At 81 b o (s .at + 1) ∷ []} (laid-fields _ refl (omega arith))
+      (laid-append (laid-cond m {xs = u16At 82 b o (s .at + 2) ∷ []} (laid-fields _ refl (omega arith)) none)
+      (laid-fields _ refl (omega arith)))
+
+  module _ (h : among c 97 ≡ true) where
+    laid-link-tos : (p n : ℕ) → fixedRule 4 b p ≡ some n → Laid (only c r) (o + p) (o + p + n) (v2.linkTos b o (span p n))
+    unfolding v2.linkTos
+    laid-link-tos p n e =
+        let q = fixed-length 4 b p n e in
+        laid-container _ _ _ h (omega arith) (omega arith) (omega arith) (laid-fields _ refl (omega arith))
+
+    laid-summary-tos : (p n : ℕ) → fixedRule 4 b p ≡ some n → Laid (only c r) (o + p) (o + p + n) (v2.summaryTos b o (span p n))
+    unfolding v2.summaryTos
+    laid-summary-tos p n e =
+        let q = fixed-length 4 b p n e in
+        laid-container _ _ _ h (omega arith) (omega arith) (omega arith) (laid-fields _ refl (omega arith))
+
+    laid-external-tos : (p n : ℕ) → fixedRule 12 b p ≡ some n → Laid (only c r) (o + p) (o + p + n) (v2.externalTos b o (span p n))
+    unfolding v2.externalTos
+    laid-external-tos p n e =
+        let q = fixed-length 12 b p n e in
+        laid-container _ _ _ h (omega arith) (omega arith) (omega arith) (laid-fields _ refl (omega arith))
+
+    -- a link up to the end of its TOS metrics, whether or not it stands in the body
+    pub laid-link-inside : among c 69 ≡ true → (s : Span) → Laid (only c r) (o + s .at) (o + after (s .at + 12) (v2.linkTosSpans b (s .at))) (linkInside b o s)
+    laid-link-inside k s =
+        let a = after-from (v2.linkTosSpans b (s .at)) (s .at + 12) in
+        laid-append (laid-fields (v2.linkFields b o (s .at)) refl (omega arith))
+        (laid-listing-if _ _ _ _ _ _ _ (λ t e. k) (omega arith) (omega arith) laid-link-tos)
+
+    -- a link that stands has room for its TOS metrics
+    laid-link2 : among c 69 ≡ true → among c 96 ≡ true → (p n : ℕ) → linkRule b p ≡ some n → Laid (only c r) (o + p) (o + p + n) (v2.link b o (span p n))
+    unfolding v2.link
+    laid-link2 k l p n e =
+        let d = inside 12 _ b p n e .length-declared in
+        let m : 12 + getD b (p + 9) 0 * 4 ≡ n = cc in
+        let t = fixed-end 4 b (getD b (p + 9) 0) (p + 12) in
+        laid-container _ _ _ l (omega arith) (omega arith) (omega arith) (widen (omega arith) (omega arith) (laid-link-inside k (span p n)))
+
+    laid-prefix : (m : Bool) (p n : ℕ) → prefixRule b p ≡ some n → Laid (only c r) (o + p) (o + p + n) (v3.prefix m b o (span p n))
+    unfolding v3.prefix
+    laid-prefix m p n e =
+        let l = inside 4 _ b p n e .enough in
+        laid-container _ _ _ h (omega arith) (omega arith) (omega arith) (widen (omega arith) (omega arith) (laid-prefix-inside m (span p n)))
+
+  laid-link3 : among c 96 ≡ true → (p n : ℕ) → fixedRule 16 b p ≡ some n → Laid (only c r) (o + p) (o + p + n) (v3.link b o (span p n))
+  unfolding v3.link
+  laid-link3 h p n e =
+      let q = fixed-length 16 b p n e in
+      laid-container _ _ _ h (omega arith) (omega arith) (omega arith) (laid-fields _ refl (omega arith))
+
+-- A body, b, at the place o: what is decoded lies before the place where it ends, which lies in the body, and has no kind 8
+-- entry but TLVs, which take the rest of the body. The second body is the same one at any other place: how much of it is
+-- decoded does not depend on where it stands.
+data BodyLaid (tlvs : ℕ) (b : List ℕ) (o : ℕ) (c : List ℕ) : Body → Body → Type 0 where
+  is : {es es′ : List Entry} {n : ℕ} → n ≤ length b → Laid (only c []) o (o + n) es → BodyLaid tlvs b o c (decoded es n) (decoded es′ n)
+  is-tlvs : {es es′ : List Entry} (s : ℕ) → o ≤ s → s ≤ o + length b → Laid (only c []) o s es
+      → BodyLaid tlvs b o c (decoded (es ++ (bytes tlvs s (o + length b) ∷ [])) (length b)) (decoded es′ (length b))
+  is-raw : BodyLaid tlvs b o c raw raw
+
+-- A choice between two bodies, with their own containers or the same ones; and a body that is raw below a least length.
+module _ {tlvs : ℕ} {b : List ℕ} {o : ℕ} where
+  choice : (t : Bool) {f g : List ℕ} {x x′ y y′ : Body} → BodyLaid tlvs b o f x x′ → BodyLaid tlvs b o g y y′
+      → BodyLaid tlvs b o (cond t f g) (cond t x y) (cond t x′ y′)
+  choice true m n = m
+  choice false m n = n
+
+  same : (t : Bool) {c : List ℕ} {x x′ y y′ : Body} → BodyLaid tlvs b o c x x′ → BodyLaid tlvs b o c y y′ → BodyLaid tlvs b o c (cond t x y) (cond t x′ y′)
+  same true m n = m
+  same false m n = n
+
+  at-least : (n : ℕ) {c : List ℕ} {x x′ : Body} → (n ≤ length b → BodyLaid tlvs b o c x x′)
+      → BodyLaid tlvs b o (from n (length b) c) (cond (ltb (length b) n) raw x) (cond (ltb (length b) n) raw x′)
+  at-least n {c} {x} {x′} h = go (ltb (length b) n) refl
+    where
+      go : (t : Bool) → ltb (length b) n ≡ t → BodyLaid tlvs b o (cond t [] c) (cond t raw x) (cond t raw x′)
+      go true e = is-raw
+      go false e = h (ltb-false (length b) n e)
+
+  -- a row of fields up to a place, and the array of a list from there on
+  module _ {c : List ℕ} {es′ : List Entry} (fields : List Entry) (i p : ℕ) (f : Span → List Entry) (least : ℕ) (declared : Rule) (k : ℕ)
+      (t : allHave (only c []) fields ≡ true) (in-front : AllIn o (o + p) fields) (g : among c i ≡ true) (h : p ≤ length b)
+      (items : (q n : ℕ) → standing least declared b q ≡ some n → Laid (only c []) (o + q) (o + q + n) (f (span q n))) where
+    is-listed : let ss = cut (standing least declared) b k p in BodyLaid tlvs b o c (decoded (fields ++ listing i f o p ss) (after p ss)) (decoded es′ (after p ss))
+    is-listed =
+        let a = after-from (cut (standing least declared) b k p) p in
+        is (cut-inside least declared b k p h)
+        (laid-append (widen (omega arith) (omega arith) (laid-fields fields t in-front)) (laid-listing i o p f (standing least declared) b k (λ s e. g) (omega arith) (omega arith) items))
+
+    is-listed-if : let ss = cut (standing least declared) b k p in BodyLaid tlvs b o c (decoded (fields ++ listingIfAny i f o p ss) (after p ss)) (decoded es′ (after p ss))
+    is-listed-if =
+        let a = after-from (cut (standing least declared) b k p) p in
+        is (cut-inside least declared b k p h)
+        (laid-append (widen (omega arith) (omega arith) (laid-fields fields t in-front)) (laid-listing-if i o p f (standing least declared) b k (λ s e. g) (omega arith) (omega arith) items))
+
+  raw-below : (n : ℕ) {c : List ℕ} {x x′ : Body} → (n ≤ length b → BodyLaid tlvs b o c x x′) → BodyLaid tlvs b o c (cond (ltb (length b) n) raw x) (cond (ltb (length b) n) raw x′)
+  raw-below n {c} {x} {x′} h = go (ltb (length b) n) refl
+    where
+      go : (t : Bool) → ltb (length b) n ≡ t → BodyLaid tlvs b o c (cond t raw x) (cond t raw x′)
+      go true e = is-raw
+      go false e = h (ltb-false (length b) n e)
+
+-- The bodies of version 2, at the places o and q.
+module _ (b : List ℕ) (o q : ℕ) where
+  abbrev Laid2 : List ℕ → (List ℕ → ℕ → Body) → Type 0
+  Laid2 c f = BodyLaid 24 b o c (f b o) (f b q)
+
+  router2 : Laid2 (from 4 (length b) (16 ∷ 96 ∷ 69 ∷ 97 ∷ [])) v2.routerLsa2
+  unfolding v2.routerLsa2
+  router2 = at-least _ (λ h. is-listed (v2.routerFlags b o ++ (u16At 15 b o 2 ∷ [])) _ _ _ _ _ _ refl (omega arith) refl h (laid-link2 b o refl refl refl))
+
+  network2 : Laid2 (from 4 (length b) (18 ∷ [])) v2.networkLsa2
+  unfolding v2.networkLsa2 whole
+  network2 = at-least _ (λ h. is-listed (ip4At 17 b o 0 ∷ []) _ _ _ _ _ _ refl (omega arith) refl h (laid-attached b o))
+
+  summary : Laid2 (from 8 (length b) (20 ∷ 97 ∷ [])) v2.summaryLsa
+  unfolding v2.summaryLsa whole
+  summary = at-least _ (λ h. is-listed-if (ip4At 17 b o 0 ∷ metric24At 19 b o 5 ∷ []) _ _ _ _ _ _ refl (omega arith) refl h (laid-summary-tos b o refl))
+
+  external2 : Laid2 (from 16 (length b) (20 ∷ 97 ∷ [])) v2.externalLsa2
+  unfolding v2.externalLsa2 whole
+  external2 = at-least _ (λ h. is-listed-if (v2.externalFields b o) _ _ _ _ _ _ refl (omega arith) refl h (laid-external-tos b o refl))
+
+  opaque : {c : List ℕ} (u : ℕ) → Laid2 c (v2.opaqueLsa u)
+  unfolding v2.opaqueLsa
+  opaque u = same (v2.opaqueHasTlvs u) (is-tlvs {es = []} o (omega arith) (omega arith) none) is-raw
+
+  laid-body2 : (t u : ℕ) → Laid2 (containers2 t (length b)) (v2.body2 t u)
+  unfolding v2.body2
+  laid-body2 t u =
+      choice (eqb t 1) router2
+      (choice (eqb t 2) network2
+      (choice (eqb t 3) summary
+      (choice (eqb t 4) summary
+      (choice (eqb t 5) external2
+      (choice (eqb t 7) external2
+      (same (eqb t 9) (opaque u)
+      (same (eqb t 10) (opaque u)
+      (same (eqb t 11) (opaque u) is-raw))))))))
+
+-- The octets of a prefix that fits lie in the body.
+prefix-fits : (b : List ℕ) (l p n : ℕ) → v3.prefixFits b l p ≡ some n → p + n ≤ length b
+unfolding v3.prefixFits
+prefix-fits b l p n e = go (octets l) e
+  where
+    fits : (m : ℕ) (t : Bool) → leb (p + m) (length b) ≡ t → cond t (some m) nothing ≡ some n → p + n ≤ length b
+    fits m true h q = let z : m ≡ n = cc in omega (arith, leb-true (p + m) (length b) h)
+    fits m false h q = let z : _≡_ {A = ℕ} 0 1 = cc in absurd (omega arith)
+
+    go : (x : Option ℕ) → elim x [ nothing ↦ nothing | some m ↦ cond (leb (p + m) (length b)) (some m) nothing ] ≡ some n → p + n ≤ length b
+    go nothing q = let z : _≡_ {A = ℕ} 0 1 = cc in absurd (omega arith)
+    go (some m) q = fits m (leb (p + m) (length b)) refl q
+
+-- The bodies of version 3.
+module _ (b : List ℕ) (o q : ℕ) where
+  abbrev Laid3 : List ℕ → (List ℕ → ℕ → Body) → Type 0
+  Laid3 c f = BodyLaid 32 b o c (f b o) (f b q)
+
+  router3 : Laid3 (from 4 (length b) (15 ∷ 96 ∷ [])) v3.routerLsa3
+  unfolding v3.routerLsa3 whole
+  router3 = at-least _ (λ h. is-listed (v3.routerFlags b o ++ (v3.options b o ∷ [])) _ _ _ _ _ _ refl (omega arith) refl h (laid-link3 b o refl))
+
+  network3 : Laid3 (from 4 (length b) (16 ∷ [])) v3.networkLsa3
+  unfolding v3.networkLsa3 whole
+  network3 = at-least _ (λ h. is-listed (v3.options b o ∷ []) _ _ _ _ _ _ refl (omega arith) refl h (laid-attached b o))
+
+  inter-area-prefix : {c : List ℕ} → Laid3 c v3.interAreaPrefixLsa
+  unfolding v3.interAreaPrefixLsa
+  inter-area-prefix {c} = go (v3.prefixFits b (getD b 4 0) 8) refl
+    where
+      fields : ℕ → ℕ → List Entry
+      fields p n = metric24At 17 b p 1 ∷ u8At 18 b p 4 ∷ u8At 19 b p 5 ∷ ip6At 20 b p 8 n ∷ []
+
+      go : (x : Option ℕ) → v3.prefixFits b (getD b 4 0) 8 ≡ x → BodyLaid 32 b o c (elim x [ nothing ↦ raw | some n ↦ decoded (fields o n) (8 + n) ]) (elim x [ nothing ↦ raw | some n ↦ decoded (fields q n) (8 + n) ])
+      go nothing e = is-raw
+      go (some n) e = is (prefix-fits b (getD b 4 0) 8 n e) (laid-fields (fields o n) refl (omega arith))
+
+  inter-area-router : {c : List ℕ} → Laid3 c v3.interAreaRouterLsa
+  unfolding v3.interAreaRouterLsa
+  inter-area-router = raw-below _ (λ h. is h (laid-fields _ refl (omega arith)))
+
+  link-lsa : Laid3 (from 24 (length b) (29 ∷ 97 ∷ [])) v3.linkLsa
+  unfolding v3.linkLsa
+  link-lsa = at-least _ (λ h. is-listed (u8At 26 b o 0 ∷ v3.options b o ∷ ip6At 27 b o 4 16 ∷ u32At 28 b o 20 ∷ []) _ _ _ _ _ _ refl (omega arith) refl h (laid-prefix b o refl false))
+
+  intra-area-prefix : Laid3 (from 12 (length b) (29 ∷ 97 ∷ [])) v3.intraAreaPrefixLsa
+  unfolding v3.intraAreaPrefixLsa
+  intra-area-prefix = at-least _ (λ h. is-listed (wide16At 28 b o 0 ∷ v3.references b o) _ _ _ _ _ _ refl (omega arith) refl h (laid-prefix b o refl true))
+
+  tlv-lsa : {c : List ℕ} (n : ℕ) (es es′ : List Entry) → allHave (only c []) es ≡ true → AllIn o (o + n) es → BodyLaid 32 b o c (v3.tlvLsa n es b o) (v3.tlvLsa n es′ b q)
+  unfolding v3.tlvLsa
+  tlv-lsa n es es′ t l = raw-below _ (λ h. is-tlvs (o + n) (omega arith) (omega arith) (laid-fields es t l))
+
+  external3 : {c : List ℕ} → Laid3 c v3.externalLsa3
+  unfolding v3.externalLsa3
+  external3 {c} = go (v3.prefixFits b (getD b 4 0) 8)
+    where
+      fields : ℕ → ℕ → List Entry
+      fields p n = v3.externalFlags b p ++ (v3.externalPrefix b p n ++ v3.externalOptional b p n)
+
+      -- a field of n bytes that is there where the test says so
+      optional : (t : Bool) (x : Entry) (p n : ℕ) → allHave (only c []) (x ∷ []) ≡ true → start x ≡ o + p → end x ≡ o + p + n → (hi : ℕ) → p + cond t n 0 ≤ hi
+          → Laid (only c []) o (o + hi) (cond t (x ∷ []) [])
+      optional true x p n h s e hi l = laid-fields (x ∷ []) h (omega arith)
+      optional false x p n h s e hi l = none
+
+      laid : (n : ℕ) → Laid (only c []) o (o + v3.externalEnd b n) (fields o n)
+      laid n =
+          laid-append (laid-fields (v3.externalFlags b o) refl (omega arith))
+          (laid-append (laid-fields (v3.externalPrefix b o n) refl (omega arith))
+          (laid-append (optional (v3.hasForwarding b) (ip6At 23 b o (v3.forwardingPlace n) 16) (v3.forwardingPlace n) 16 refl refl refl (v3.externalEnd b n) (omega arith))
+          (laid-append (optional (v3.hasTag b) (u32At 24 b o (v3.tagPlace b n)) (v3.tagPlace b n) 4 refl refl refl (v3.externalEnd b n) (omega arith))
+          (optional (v3.hasReference b) (u32At 25 b o (v3.referencePlace b n)) (v3.referencePlace b n) 4 refl refl refl (v3.externalEnd b n) (omega arith)))))
+
+      go : (x : Option ℕ) → BodyLaid 32 b o c
+          (elim x [ nothing ↦ raw | some n ↦ cond (ltb (length b) (v3.externalEnd b n)) raw (decoded (fields o n) (v3.externalEnd b n)) ])
+          (elim x [ nothing ↦ raw | some n ↦ cond (ltb (length b) (v3.externalEnd b n)) raw (decoded (fields q n) (v3.externalEnd b n)) ])
+      go nothing = is-raw
+      go (some n) = raw-below (v3.externalEnd b n) (λ h. is h (laid n))
+
+  laid-body3 : (f : ℕ) → Laid3 (containers3 f (length b)) (v3.body3 f)
+  unfolding v3.body3
+  laid-body3 f =
+      choice (eqb f 1) router3
+      (choice (eqb f 2) network3
+      (same (eqb f 3) inter-area-prefix
+      (same (eqb f 4) inter-area-router
+      (same (eqb f 5) external3
+      (same (eqb f 7) external3
+      (choice (eqb f 8) link-lsa
+      (choice (eqb f 9) intra-area-prefix
+      (same (eqb f 12) (tlv-lsa 0 [] [] refl (omega arith))
+      (same (eqb f 33) (tlv-lsa 4 (v3.routerFlags b o ++ (v3.options b o ∷ [])) _ refl (omega arith))
+      (same (eqb f 34) (tlv-lsa 4 (v3.options b o ∷ []) _ refl (omega arith))
+      (same (eqb f 35) (tlv-lsa 0 [] [] refl (omega arith))
+      (same (eqb f 36) (tlv-lsa 0 [] [] refl (omega arith))
+      (same (eqb f 37) (tlv-lsa 0 [] [] refl (omega arith))
+      (same (eqb f 39) (tlv-lsa 0 [] [] refl (omega arith))
+      (same (eqb f 40) (tlv-lsa 4 (u8At 26 b o 0 ∷ v3.options b o ∷ []) _ refl (omega arith))
+      (same (eqb f 41) (tlv-lsa 12 (v3.references b o) _ refl (omega arith))
+      (same (eqb f 42) (tlv-lsa 0 [] [] refl (omega arith)) is-raw)))))))))))))))))
+
+-- A body's entries with what is left of it, and its tail.
+body-ends : {tlvs : ℕ} {b : List ℕ} {o : ℕ} {c : List ℕ} {x x′ : Body} (w : List ℕ) (r u : ℕ) → among w tlvs ≡ true → among w r ≡ true → BodyLaid tlvs b o c x x′
+    → Ending c w u o (o + length b) (bodyEntries r u x b o) (bodyTail x′ b)
+unfolding bodyEntries bodyTail leftover
+body-ends {b = b} {o = o} {c = c} w r u h k (is {es = es} {n = n} i l) = go (ltb n (length b)) refl
+  where
+    go : (t : Bool) → ltb n (length b) ≡ t → Ending c w u o (o + length b) (es ++ cond t (bytes u (o + n) (o + length b) ∷ []) []) (length b - n)
+    go true e = let a = ltb-true n (length b) e in leaves es (o + n) refl l (omega arith) (omega arith) (omega arith)
+    go false e = let a = ltb-false n (length b) e in no-range (rw append-nil (widen (omega arith) (omega arith) l)) (omega arith)
+body-ends {tlvs} {b} {o} {c} w r u h k (is-tlvs {es = es} s f t l) = rw (le-ltb (length b) (length b) (omega arith), append-nil) (takes es tlvs s h refl l f t (omega arith))
+body-ends {b = b} {o = o} {c = c} w r u h k is-raw = go (ltb 0 (length b))
+  where
+    go : (t : Bool) → Ending c w u o (o + length b) (cond t (bytes r (o + 0) (o + length b) ∷ []) []) 0
+    go true = takes [] r (o + 0) k refl none (omega arith) (omega arith) refl
+    go false = no-range none refl
+
+-- The same after entries that lie before it and have no kind 8 entry.
+after-front : {c w : List ℕ} {u lo mid hi tail : ℕ} {front es : List Entry} → Laid (only c []) lo mid front → lo ≤ mid → mid ≤ hi
+    → Ending c w u mid hi es tail → Ending c w u lo hi (front ++ es) tail
+after-front l a b (no-range m t) = no-range (laid-append (widen (omega arith) b l) (widen a (omega arith) m)) t
+after-front {front = front} l a b (leaves es s e m f g t) =
+    leaves (front ++ es) s (ap (λ (x : List Entry). front ++ x) e ∙ sym (append-assoc front es _)) (laid-append (widen (omega arith) f l) (widen a (omega arith) m)) (omega arith) g t
+after-front {front = front} l a b (takes es i s k e m f g t) =
+    takes (front ++ es) i s k (ap (λ (x : List Entry). front ++ x) e ∙ sym (append-assoc front es _)) (laid-append (widen (omega arith) f l) (widen a (omega arith) m)) (omega arith) g t
+
+-- How the entries of any LSA end, whatever its length; and what they are laid out in.
+pub lsa-ends : (v : ℕ) (d : List ℕ) (o : ℕ) → Ending (containers v d) (taken v) (unparsed v) o (o + 20 + length (drop 20 d)) (lsaEntries v d o) (lsaTail v d)
+unfolding v2.lsaEntries2 v2.lsaTail2 v3.lsaEntries3 v3.lsaTail3
+lsa-ends v d o = go (eqb v 2)
+  where
+    b : List ℕ
+    b = drop 20 d
+
+    go : (t : Bool) → Ending (cond t (containers2 (getD d 3 0) (length b)) (containers3 (be16At d 2 % 8192) (length b))) (cond t (23 ∷ 24 ∷ []) (31 ∷ 32 ∷ [])) (cond t 25 33)
+        o (o + 20 + length b) (cond t (v2.lsaEntries2 d o) (v3.lsaEntries3 d o)) (cond t (v2.lsaTail2 d) (v3.lsaTail3 d))
+    go true = after-front (laid-header2 d o) (omega arith) (omega arith) (body-ends _ 23 25 refl refl (laid-body2 b (o + 20) 20 (getD d 3 0) (getD d 4 0)))
+    go false = after-front (laid-header3 d o) (omega arith) (omega arith) (body-ends _ 31 33 refl refl (laid-body3 b (o + 20) 20 (be16At d 2 % 8192)))
+
+-- Entries that end so are laid out.
+or-else : (t : Bool) {x : Bool} → x ≡ true → cond t true x ≡ true
+or-else true h = refl
+or-else false h = h
+
+ending-laid : {c w : List ℕ} {u lo hi tail : ℕ} {es : List Entry} → Ending c w u lo hi es tail → Laid (only c (u ∷ w)) lo hi es
+ending-laid {c} {w} {u} {lo} {hi} {tail} {es} e = go e
+  where
+    fewer : {mid : ℕ} {xs : List Entry} → mid ≤ hi → Laid (only c []) lo mid xs → Laid (only c (u ∷ w)) lo hi xs
+    fewer h l = weaken (only-more c c [] (u ∷ w) (λ i k. k) (λ i k. let z : _≡_ {A = ℕ} 0 1 = cc in absurd (omega arith))) (widen (omega arith) h l)
+
+    go : Ending c w u lo hi es tail → Laid (only c (u ∷ w)) lo hi es
+    go (no-range l t) = fewer (omega arith) l
+    go (leaves front s e l f g t) = rw e (laid-append (fewer (omega arith) l) (laid-fields (bytes u s hi ∷ []) (rw (eq-eqb u u refl)) (omega arith)))
+    go (takes front i s k e l f g t) = rw e (laid-append (fewer g l) (laid-fields (bytes i s hi ∷ []) (rw (or-else (eqb i u) k)) (omega arith)))
+
+-- The entries of any LSA, to the end of its header at least; and of one that has its header.
+pub laid-any : (v : ℕ) (d : List ℕ) (o : ℕ) → Laid (holds v d) o (o + 20 + length (drop 20 d)) (lsaEntries v d o)
+laid-any v d o = ending-laid (lsa-ends v d o)
+
+pub laid-lsa : (v : ℕ) (d : List ℕ) (o : ℕ) → 20 ≤ length d → Laid (holds v d) o (o + length d) (lsaEntries v d o)
+laid-lsa v d o h = let l = length-drop 20 d in widen (omega arith) (omega arith) (laid-any v d o)

@@ -1,0 +1,74 @@
+-- What each LSA holds, by its type and the length of its body: which containers and kind 8 entries, and where its links and
+-- its prefixes lie. The numbers are those of the requirements.
+use Prim.Native.Nat.{ℕ, _+_, _-_, _/_, _%_}
+use mathlib.Core.Bool.{Bool, cond}
+use mathlib.Core.List.{List, [], _∷_}
+use lib.ListN.{length, getD, drop}
+use lib.Dec.{ltb, eqb}
+use Rattle.format.specs.Bytes.{be16At, be32At}
+use Rattle.format.specs.Strip.{Entry}
+use Rattle.format.specs.Cut.{Span, cut, linkRule, prefixRule, fixedRule}
+use Rattle.format.specs.Ranges.{Range, placed}
+use Rattle.format.specs.Laid.{only}
+
+-- The ids of the containers in a body that is decoded from a least length on; below that it has none.
+abbrev pub from : (least n : ℕ) → List ℕ → List ℕ
+from least n ids = cond (ltb n least) [] ids
+
+-- The containers in a body of n bytes, by the LS type: arrays of links (16), of attached routers (18), of TOS metrics (20,
+-- and 69 in a link); links (96) and TOS metrics (97).
+abbrev pub containers2 : (lsType n : ℕ) → List ℕ
+containers2 t n =
+    cond (eqb t 1) (from 4 n (16 ∷ 96 ∷ 69 ∷ 97 ∷ []))
+    (cond (eqb t 2) (from 4 n (18 ∷ []))
+    (cond (eqb t 3) (from 8 n (20 ∷ 97 ∷ []))
+    (cond (eqb t 4) (from 8 n (20 ∷ 97 ∷ []))
+    (cond (eqb t 5) (from 16 n (20 ∷ 97 ∷ []))
+    (cond (eqb t 7) (from 16 n (20 ∷ 97 ∷ []))
+    [])))))
+
+-- The same by the function code: arrays of links (15), of attached routers (16), of prefixes (29); links (96) and
+-- prefixes (97).
+abbrev pub containers3 : (function n : ℕ) → List ℕ
+containers3 f n =
+    cond (eqb f 1) (from 4 n (15 ∷ 96 ∷ []))
+    (cond (eqb f 2) (from 4 n (16 ∷ []))
+    (cond (eqb f 8) (from 24 n (29 ∷ 97 ∷ []))
+    (cond (eqb f 9) (from 12 n (29 ∷ 97 ∷ []))
+    [])))
+
+-- The containers in an LSA. Its LS type is byte 3 in version 2; in version 3 the function is the low 13 bits of the LS type.
+abbrev pub containers : (version : ℕ) → List ℕ → List ℕ
+containers v d = cond (eqb v 2) (containers2 (getD d 3 0) (length (drop 20 d))) (containers3 (be16At d 2 % 8192) (length (drop 20 d)))
+
+-- A raw body and a tlvs range; unparsed bytes.
+abbrev pub taken : (version : ℕ) → List ℕ
+taken v = cond (eqb v 2) (23 ∷ 24 ∷ []) (31 ∷ 32 ∷ [])
+
+abbrev pub unparsed : (version : ℕ) → ℕ
+unparsed v = cond (eqb v 2) 25 33
+
+-- The entries in an LSA: its containers, the three kind 8 entries, and fields with a value.
+abbrev pub holds : (version : ℕ) → List ℕ → Entry → Bool
+holds v d = only (containers v d) (unparsed v ∷ taken v)
+
+-- The ranges of the spans of a list in a body that begins at the place o, where the body has the bytes before the list's
+-- first place; else it has no list.
+abbrev pub listed : (first : ℕ) → List ℕ → ℕ → List Span → List Range
+listed first b o ss = cond (ltb (length b) first) [] (placed o ss)
+
+-- The links of an LSA: of a version 2 Router-LSA (type 1) under its own count, of a version 3 one (function 1) as many of
+-- 16 bytes as there are. No other LSA has links.
+abbrev pub linkRanges : (version : ℕ) → List ℕ → ℕ → List Range
+linkRanges v d o =
+    cond (eqb v 2)
+    (cond (eqb (getD d 3 0) 1) (listed 4 (drop 20 d) (o + 20) (cut linkRule (drop 20 d) (be16At (drop 20 d) 2) 4)) [])
+    (cond (eqb (be16At d 2 % 8192) 1) (listed 4 (drop 20 d) (o + 20) (cut (fixedRule 16) (drop 20 d) ((length (drop 20 d) - 4) / 16) 4)) [])
+
+-- The prefixes of a version 3 LSA: of a Link-LSA (function 8) and of an Intra-Area-Prefix-LSA (function 9), under their own
+-- counts. No other LSA has a list of prefixes.
+abbrev pub prefixRanges : List ℕ → ℕ → List Range
+prefixRanges d o =
+    cond (eqb (be16At d 2 % 8192) 8) (listed 24 (drop 20 d) (o + 20) (cut prefixRule (drop 20 d) (be32At (drop 20 d) 20) 24))
+    (cond (eqb (be16At d 2 % 8192) 9) (listed 12 (drop 20 d) (o + 20) (cut prefixRule (drop 20 d) (be16At (drop 20 d) 0) 12))
+    [])
