@@ -6,9 +6,11 @@ pub mod Unique
 pub mod Rules
 pub mod Loop
 pub mod Lists
-pub mod Bounds
 pub mod FixedLoop
 pub mod Prefix
+pub mod Lengths
+pub mod Bounds
+pub mod Sizes
 pub mod Newness
 pub mod Examples
 pub mod Nested

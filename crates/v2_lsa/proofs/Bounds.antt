@@ -53,4 +53,4 @@ lsa-bound d o h =
     let x = bodyOf2 d o in
     let p = o + headerSize in
     let l = length-lsa (headerEntries2 d o) 23 25 x b p in
-    omega (arith, header-bound d o, body-bound b p (getD d 3 0) (getD d 4 0), rest-bound 23 25 x b p)
+    omega (arith, header-bound 2 d o, body-bound b p (getD d 3 0) (getD d 4 0), rest-bound 23 25 x b p)

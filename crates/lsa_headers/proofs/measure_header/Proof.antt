@@ -16,7 +16,7 @@ measure-lsa-header-fields-requires-2 c κs = search needs
 returns : tie.Need-returns
 returns c =
     let t = eq-eqb (c .before .before .before .args .version) 2 (c .before .if1 .taken) in
-    (rw t (c .measure-lsa-header-fields .ensures), omega (arith, c .measure-lsa-header-fields .ensures 0, header-bound (c .before .before .before .args .header .now) 0))
+    (rw t (c .measure-lsa-header-fields .ensures), omega (arith, c .measure-lsa-header-fields .ensures 0, header-bound 2 (c .before .before .before .args .header .now) 0))
 
 returns-2 : tie.Need-returns-2
 unfolding headerEntries3 encode code
