@@ -12,7 +12,7 @@ use Rattle.format.specs.Body as body
 use Rattle.format.specs.Body.{leftover, bodyEntries, bodyTail}
 use Rattle.format.specs.Body.Body.{decoded, raw}
 use Rattle.format.proofs.Wrote.{then, encode-append}
-use Rattle.format.proofs.Bounds.{leftover-bound}
+use Rattle.format.proofs.Bounds.{ownOf, restOf, own-and-rest}
 use Rattle.body.specs.Answers.{Pushed, pushedOf, measuredOf, bytesOf}
 use Rattle.body.specs.declared.Body.{Body}
 use Rattle.body.specs.declared.Body.the-variants.{Decoded, Raw}
@@ -25,21 +25,16 @@ pushed-decoded es n m e w = record { answer = rw (e, w .place); contents = w .co
 pub pushed-raw : (l : List ℕ) (at : ℕ) → Pushed raw l at l Raw
 pushed-raw l at = record { answer = refl; contents = refl }
 
--- What is left of a body, after its own entries.
-abbrev pub restOf : (rawId unparsedId : ℕ) → body.Body → List ℕ → ℕ → List Entry
-restOf r u (decoded es n) b o = leftover u b o n
-restOf r u raw b o = leftover r b o 0
-
-pub rest-bound : (r u : ℕ) (x : body.Body) (b : List ℕ) (o : ℕ) → length (encode (restOf r u x b o)) ≤ 10
-rest-bound r u (decoded es n) b o = leftover-bound u b o n
-rest-bound r u raw b o = leftover-bound r b o 0
+own-bytes : (x : body.Body) → encode (ownOf x) ≡ bytesOf x
+unfolding encode
+own-bytes (decoded es n) = refl
+own-bytes raw = refl
 
 -- The bytes of an LSA: its header's, its body's own, and those of what is left.
 pub encode-lsa : (hs : List Entry) (r u : ℕ) (x : body.Body) (b : List ℕ) (o : ℕ)
     → encode (hs ++ bodyEntries r u x b o) ≡ encode hs ++ (bytesOf x ++ encode (restOf r u x b o))
-unfolding bodyEntries
-encode-lsa hs r u (decoded es n) b o = rw (encode-append hs (es ++ leftover u b o n), encode-append es (leftover u b o n))
-encode-lsa hs r u raw b o = encode-append hs (leftover r b o 0)
+encode-lsa hs r u x b o =
+    rw (own-and-rest r u x b o, encode-append hs (ownOf x ++ restOf r u x b o), encode-append (ownOf x) (restOf r u x b o), own-bytes x)
 
 pub length-lsa : (hs : List Entry) (r u : ℕ) (x : body.Body) (b : List ℕ) (o : ℕ)
     → length (encode (hs ++ bodyEntries r u x b o)) ≡ length (encode hs) + (length (bytesOf x) + length (encode (restOf r u x b o)))

@@ -85,30 +85,30 @@ array-bound i f o p [] = omega arith
 array-bound i f o p (s ∷ ss) = let l = length-listing i f o p (s ∷ ss) in omega arith
 
 -- A body's own entries. A raw body has none.
-abbrev pub own : Body → List Entry
-own (decoded es n) = es
-own raw = []
+abbrev pub ownOf : Body → List Entry
+ownOf (decoded es n) = es
+ownOf raw = []
 
 -- What is left of a body after them.
-abbrev pub rest : (rawId unparsedId : ℕ) → Body → List ℕ → ℕ → List Entry
-rest r u (decoded es n) b o = leftover u b o n
-rest r u raw b o = leftover r b o 0
+abbrev pub restOf : (rawId unparsedId : ℕ) → Body → List ℕ → ℕ → List Entry
+restOf r u (decoded es n) b o = leftover u b o n
+restOf r u raw b o = leftover r b o 0
 
-pub own-and-rest : (r u : ℕ) (x : Body) (b : List ℕ) (o : ℕ) → bodyEntries r u x b o ≡ own x ++ rest r u x b o
+pub own-and-rest : (r u : ℕ) (x : Body) (b : List ℕ) (o : ℕ) → bodyEntries r u x b o ≡ ownOf x ++ restOf r u x b o
 unfolding bodyEntries
 own-and-rest r u (decoded es n) b o = refl
 own-and-rest r u raw b o = refl
 
-rest-bound : (r u : ℕ) (x : Body) (b : List ℕ) (o : ℕ) → length (encode (rest r u x b o)) ≤ 10
+rest-bound : (r u : ℕ) (x : Body) (b : List ℕ) (o : ℕ) → length (encode (restOf r u x b o)) ≤ 10
 rest-bound r u (decoded es n) b o = leftover-bound u b o n
 rest-bound r u raw b o = leftover-bound r b o 0
 
 -- A body whose own entries take at most m bytes.
 pub record Sized (m : ℕ) (x : Body) : Type 0 where
-  pub bound : length (encode (own x)) ≤ m
+  pub bound : length (encode (ownOf x)) ≤ m
 
 -- A body that is shorter than its least length is raw.
-pub least-sized : {m : ℕ} (b : List ℕ) (n : ℕ) (x : Body) → (n ≤ length b → length (encode (own x)) ≤ m) → Sized m (cond (ltb (length b) n) raw x)
+pub least-sized : {m : ℕ} (b : List ℕ) (n : ℕ) (x : Body) → (n ≤ length b → length (encode (ownOf x)) ≤ m) → Sized m (cond (ltb (length b) n) raw x)
 unfolding encode
 least-sized {m} b n x f = go (ltb (length b) n) refl
   where
@@ -128,4 +128,4 @@ choice-sized false f g = g
 -- Entries before a body, the body's own, and what is left of it.
 pub lsa-sized : (hs : List Entry) (r u : ℕ) {m : ℕ} {x : Body} (b : List ℕ) (o : ℕ) → Sized m x → length (encode (hs ++ bodyEntries r u x b o)) ≤ length (encode hs) + m + 10
 lsa-sized hs r u {x = x} b o f =
-    rw (own-and-rest r u x b o, length-both hs (own x ++ rest r u x b o), length-both (own x) (rest r u x b o)) (omega (arith, f .bound, rest-bound r u x b o))
+    rw (own-and-rest r u x b o, length-both hs (ownOf x ++ restOf r u x b o), length-both (ownOf x) (restOf r u x b o)) (omega (arith, f .bound, rest-bound r u x b o))

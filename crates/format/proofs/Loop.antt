@@ -104,6 +104,12 @@ module _ (r : Rule) (f : Span → List Entry) (b : List ℕ) (count from : ℕ) 
       let q : suc k - 1 ≡ k = omega arith in
       rw q (record { passed = g .passed ++ encode (f (span pos n)); now-at = at-turn n (g .now-at) e; summed = rw length-append (omega (arith, g .summed)) })
 
+  -- the sum with the next entry is no more than that of all
+  pub measure-room : {total pos left : ℕ} (n : ℕ) → Measuring r f b count from total pos left → 0 < left → r b pos ≡ some n
+      → total + length (encode (f (span pos n))) ≤ length (spread f (cut r b count from))
+  measure-room {total} {pos} {left = zero} n g h e = absurd (not-suc-le-zero h)
+  measure-room {total} {pos} {left = suc k} n g h e = let t = simp length-append at (ap length (ahead n (g .now-at) e)) in omega (arith, t, g .summed)
+
   pub measure-finish : {total pos left : ℕ} → Measuring r f b count from total pos left → cut r b left pos ≡ []
       → (total ≡ length (spread f (cut r b count from))) × (pos ≡ after from (cut r b count from)) × (length (cut r b count from) ≡ count - left)
   measure-finish g e = let d = at-finish (g .now-at) e in (g .summed ∙ ap length (d .0), d .1, d .2)

@@ -4,7 +4,7 @@ use Prim.Native.Nat.{ℕ, _+_, _*_, _-_, _/_, _≤_, _<_}
 use native.Mathlib.Omega.{arith}
 use mathlib.Core.Path.{_≡_, refl}
 use mathlib.Core.Bool.{Bool, true, false, cond}
-use mathlib.Core.List.{List, [], _∷_, _++_, flatMap}
+use mathlib.Core.List.{List, [], _∷_, _++_}
 use mathlib.Core.Option.{Option, none, some}
 use lib.ListN.{length, getD, drop, length-drop}
 use lib.Dec.{ltb, eqb}
@@ -33,19 +33,22 @@ Sized2 b x = Sized (9 * length b + 42) x
 
 module _ (b : List ℕ) (o : ℕ) where
   -- a link has nine bytes at most for each of its own
-  link-bound2 : (p n : ℕ) → linkRule b p ≡ some n → length (encode (v2.link b o (span p n))) ≤ 9 * n
+  link-bound : (p n : ℕ) → linkRule b p ≡ some n → length (encode (v2.link b o (span p n))) ≤ 9 * n
   unfolding v2.linkTos container encode code
-  link-bound2 p n e =
+  link-bound p n e =
       let h = link-inside b p n e in
       let k = is-cut (fixedRule 4) b (getD b (p + 9) 0) (p + 12) .most in
       let m = each-bound (v2.linkTos b o) 36 (λ s. omega arith) (v2.linkTosSpans b p) in
       omega (arith, length-link b o (span p n), array-bound 69 (v2.linkTos b o) o (p + 12) (v2.linkTosSpans b p))
 
+  pub links-bound : (k p : ℕ) → length (spread (v2.link b o) (cut linkRule b k p)) ≤ 9 * (length b - p)
+  links-bound k p = cut-bound 12 _ (v2.link b o) b 9 link-bound k p
+
   router2 : Sized2 b (v2.routerLsa2 b o)
   unfolding v2.routerLsa2 encode code
   router2 = least-sized b 4 _ (λ h.
       let l = length-listing 16 (v2.link b o) o 4 (v2.links b) in
-      omega (arith, cut-bound 12 _ (v2.link b o) b 9 link-bound2 (be16At b 2) 4))
+      omega (arith, links-bound (be16At b 2) 4))
 
   network2 : Sized2 b (v2.networkLsa2 b o)
   unfolding v2.networkLsa2 attachedRouter encode code
@@ -202,8 +205,7 @@ module _ (d : List ℕ) (o : ℕ) (h : headerSize ≤ length d) where
       go false = lsa-bound3
 
 -- The objects of so many headers: 136 bytes at most for each.
-pub headers-bound : (v : ℕ) (d : List ℕ) (o count : ℕ) → length (encode (flatMap (headerObject v d o) (cut (fixedRule headerSize) d count 0))) ≤ count * 136
-unfolding spread
+pub headers-bound : (v : ℕ) (d : List ℕ) (o count : ℕ) → length (spread (headerObject v d o) (cut (fixedRule headerSize) d count 0)) ≤ count * 136
 headers-bound v d o count = omega (arith, each-bound (headerObject v d o) 136 object (cut (fixedRule headerSize) d count 0), is-cut (fixedRule headerSize) d count 0 .most)
   where
     object : (s : Span) → length (encode (headerObject v d o s)) ≤ 136
@@ -211,8 +213,7 @@ headers-bound v d o count = omega (arith, each-bound (headerObject v d o) 136 ob
 
 -- The objects of an update: 19 bytes at most for each byte of the data after the number of LSAs. An object takes eleven bytes
 -- more than its LSA's entries, and an LSA has 20 bytes at least.
-pub lsas-bound : (v : ℕ) (d : List ℕ) (o count : ℕ) → length (encode (flatMap (lsaObject v d o) (lsas d count))) ≤ 19 * (length d - 4)
-unfolding spread
+pub lsas-bound : (v : ℕ) (d : List ℕ) (o count : ℕ) → length (spread (lsaObject v d o) (lsas d count)) ≤ 19 * (length d - 4)
 lsas-bound v d o count = cut-bound 20 _ (lsaObject v d o) d 19 each count 4
   where
     each : (p n : ℕ) → recordRule d p ≡ some n → length (encode (lsaObject v d o (span p n))) ≤ 19 * n
@@ -223,11 +224,12 @@ lsas-bound v d o count = cut-bound 20 _ (lsaObject v d o) d 19 each count 4
 
 -- The whole strip of each walk over data of a call's limit: its length fits in 32 bits.
 pub headers-size : (v : ℕ) (d : List ℕ) (o : ℕ) → length d ≤ 65535 → length (encode (outer v (headerObject v d o) d o 0 (headers d))) < 4294967296
-unfolding whole
+unfolding whole spread
 headers-size v d o h =
     omega (arith, length-outer v (headerObject v d o) d o 0 (headers d), headers-bound v d o ((length d - 0) / headerSize), leftover-bound (unparsedId v) d o (after 0 (headers d)))
 
 pub update-size : (v : ℕ) (d : List ℕ) (o count : ℕ) → length d ≤ 65535 → length (encode (outer v (lsaObject v d o) d o 4 (lsas d count))) < 4294967296
+unfolding spread
 update-size v d o count h =
     omega (arith, length-outer v (lsaObject v d o) d o 4 (lsas d count), lsas-bound v d o count, leftover-bound (unparsedId v) d o (after 4 (lsas d count)))
 

@@ -19,7 +19,8 @@ use Rattle.format.proofs.Lists.{fixed-stands, fixed-cut}
 use Rattle.format.proofs.Loop.{Writing}
 use Rattle.body.proofs.Laws.{to-the-end}
 use Rattle.body.proofs.Lent.{Same, from-place, lent-u8, lent-u16, lent-wide16, lent-ip4}
-use Rattle.v2_router.proofs.Laws.{opened, link-inside}
+use Rattle.format.proofs.Rules.{link-inside}
+use Rattle.v2_router.proofs.Laws.{opened}
 
 -- Its fields, and a TOS metric at q of it.
 module _ (l b : List ℕ) (o p n : ℕ) (same : Same l b p n) where

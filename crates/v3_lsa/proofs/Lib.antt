@@ -1,3 +1,2 @@
 pub mod Bodies
 pub mod Functions
-pub mod Bounds

@@ -11,7 +11,6 @@ use borrow.Author.Tests.{le-leb, lt-leb, leb-true}
 use Rattle.format.specs.Cut.{standing, fitting, prefixRule}
 use Rattle.format.specs.Prefix.{octets}
 use Rattle.format.specs.V3.{prefixFits}
-use Rattle.format.proofs.Prefix.{octets-bound}
 use Rattle.v3_prefix.specs.Fits.{fitOf, entryFits}
 use Rattle.v3_prefix.specs.declared.Fit.{Fit}
 use Rattle.v3_prefix.specs.declared.Fit.the-variants.{Octets, Nothing}
@@ -40,22 +39,6 @@ module _ (b : List ℕ) (l p : ℕ) where
 
   pub fits-past : (n : ℕ) → octets l ≡ some n → length b < p + n → prefixFits b l p ≡ none
   fits-past n e h = fits-test n e ∙ rw (lt-leb (p + n) (length b) h)
-
-  -- octets that fit are at most 16, and lie in the body
-  pub fits-inside : (n : ℕ) → prefixFits b l p ≡ some n → (p + n ≤ length b) × (n ≤ 16)
-  unfolding prefixFits
-  fits-inside n e = go (octets l) refl e
-    where
-      within : (m : ℕ) (s : Bool) → leb (p + m) (length b) ≡ s → octets l ≡ some m → cond s (some m) none ≡ some n → (p + n ≤ length b) × (n ≤ 16)
-      within m true h q f =
-          let z : m ≡ n = cc in
-          let k = octets-bound l m q in
-          omega (arith, leb-true (p + m) (length b) h)
-      within m false h q f = let z : _≡_ {A = ℕ} 0 1 = cc in absurd (omega arith)
-
-      go : (x : Option ℕ) → octets l ≡ x → elim x [ none ↦ none | some m ↦ cond (leb (p + m) (length b)) (some m) none ] ≡ some n → (p + n ≤ length b) × (n ≤ 16)
-      go (some m) q f = within m (leb (p + m) (length b)) refl q f
-      go none q f = let z : _≡_ {A = ℕ} 0 1 = cc in absurd (omega arith)
 
   -- nothing fits past the end
   pub fits-short : length b < p → prefixFits b l p ≡ none

@@ -1,30 +1,22 @@
--- The lengths of what may be present or not, as a prefix's metric; and of a list of prefixes, entry by entry.
-use Prim.Native.Nat.{ℕ, zero, suc, _+_, _-_, _≤_, _<_}
+-- The lengths of the parts of a prefix, and of a list of prefixes, entry by entry.
+use Prim.Native.Nat.{ℕ, zero, suc, _+_, _-_, _<_}
 use native.Mathlib.Omega.{arith}
 use mathlib.Core.Bool.{Bool, true, false, cond}
-use mathlib.Core.List.{List, [], _∷_, append-nil, flatMap}
+use mathlib.Core.List.{List, [], _∷_, flatMap}
 use mathlib.Core.Option.{none, some}
 use mathlib.Core.Path.{_≡_, refl, ap, _∙_}
 use lib.ListN.{length, length-append}
 use Rattle.format.specs.Cut.{Span, cut, after, prefixRule}
-use Rattle.format.specs.Strip.{Entry, encode, code, container}
+use Rattle.format.specs.Strip.{encode, code}
 use Rattle.format.specs.V3.{prefix}
+use Rattle.format.proofs.Lengths.{length-part, length-prefix}
 use Rattle.format.proofs.Loop.{spread, spread-cons}
 use Rattle.format.proofs.Unique.{span, cut-none, cut-some}
 use Rattle.v3_prefix.specs.Fits.{entryFits}
 use Rattle.v3_prefix.specs.Parts.{prefixMetric, prefixFields}
 use Rattle.v3_prefix.proofs.Fits.{entry-stands, entry-ends}
 
--- A part that is present or not takes at most what it takes when present.
-pub at-most : (s : Bool) (k : ℕ) → cond s k 0 ≤ k
-at-most true k = omega arith
-at-most false k = omega arith
-
-pub length-part : (s : Bool) (e : Entry) → length (encode (cond s (e ∷ []) [])) ≡ cond s (length (code e)) 0
-unfolding encode
-length-part true e = rw append-nil
-length-part false e = refl
-
+-- The parts of an entry.
 pub length-prefix-metric : (m : Bool) (b : List ℕ) (o p : ℕ) → length (encode (prefixMetric m b o p)) ≡ cond m 12 0
 unfolding code
 length-prefix-metric m b o p = rw (length-part m)
@@ -33,11 +25,6 @@ pub length-prefix-fields : (m : Bool) (b : List ℕ) (o p n : ℕ) → length (e
 unfolding encode code
 length-prefix-fields true b o p n = refl
 length-prefix-fields false b o p n = refl
-
-pub length-prefix : (m : Bool) (b : List ℕ) (o : ℕ) (s : Span) → length (encode (prefix m b o s)) ≡ 59 + cond m 12 0
-unfolding prefix container encode code
-length-prefix true b o s = refl
-length-prefix false b o s = refl
 
 -- Nothing is left of a list of which none is due, or whose next prefix does not fit.
 pub prefixes-end : (b : List ℕ) (k p : ℕ) → entryFits b p ≡ none → cut prefixRule b k p ≡ []

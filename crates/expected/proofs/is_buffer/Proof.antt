@@ -7,7 +7,7 @@ use lib.Seq.{length-take-le, take-all}
 use Rattle.format.specs.Bytes.{part}
 use Rattle.stored.specs.Stored.{keptAt}
 use Rattle.expected.specs.Expected.{lent, sameBytes, storedBuffer}
-use Rattle.answer.proofs.Outer.{part-length}
+use Rattle.format.proofs.Lengths.{part-length}
 use Rattle.expected.proofs.Bytes.{same-lengths, same-parts}
 use borrow.Author.Needs.{needs}
 use Rattle.expected.proofs.is_buffer.Statement.{statement}

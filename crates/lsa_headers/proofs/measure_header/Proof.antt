@@ -1,5 +1,3 @@
-use Rattle.format.specs.Strip.{encode, code}
-use Rattle.format.specs.Header.{headerEntries3}
 use Rattle.format.proofs.Bounds.{header-bound}
 use native.Mathlib.Omega.{arith}
 use borrow.Author.Tests.{eq-eqb, ne-eqb}
@@ -19,10 +17,9 @@ returns c =
     (rw t (c .measure-lsa-header-fields .ensures), omega (arith, c .measure-lsa-header-fields .ensures 0, header-bound 2 (c .before .before .before .args .header .now) 0))
 
 returns-2 : tie.Need-returns-2
-unfolding headerEntries3 encode code
 returns-2 c =
     let t = ne-eqb (c .before .before .before .args .version) 2 (c .before .if1 .left) in
-    (λ o. rw t (c .measure-lsa-header-fields2 .ensures (c .before .before .before .args .header .now) o), omega (arith, c .measure-lsa-header-fields2 .ensures (c .before .before .before .args .header .now) 0))
+    (λ o. rw t (c .measure-lsa-header-fields2 .ensures (c .before .before .before .args .header .now) o), omega (arith, c .measure-lsa-header-fields2 .ensures (c .before .before .before .args .header .now) 0, header-bound 3 (c .before .before .before .args .header .now) 0))
 
 pub measure-header-spec : {M : Type 1} → statement M
 measure-header-spec =

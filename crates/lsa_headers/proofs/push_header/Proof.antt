@@ -3,8 +3,7 @@ use Rattle.format.proofs.Lists.{contained}
 use Rattle.format.proofs.Wrote.{kept}
 use Rattle.format.specs.Walks.{headerObject}
 use Rattle.format.specs.Strip.{code}
-use Rattle.answer.proofs.Outer.{part-length}
-use Rattle.lsa_headers.proofs.Objects.{length-object}
+use Rattle.format.proofs.Lengths.{part-length, length-header-object}
 use native.Mathlib.Omega.{arith}
 use mathlib.Core.Path.{_≡_}
 use Prim.Native.Nat.{_+_, _-_}
@@ -26,7 +25,7 @@ unfolding code
 begin-container-at-requires c κs =
     let s = c .before .before .before in
     let d = s .args .data .now in
-    let l = length-object (s .args .version) d (s .args .o) (s .args .pos) in
+    let l = length-header-object (s .args .version) d (s .args .o) (s .args .pos) 20 in
     let n = part-length d (s .args .pos) 20 (omega arith) in
     omega arith
 
@@ -44,7 +43,7 @@ unfolding code
 push-header-fields-requires c κs =
     let s = c .before .before .before .before .before .before .before .before in
     let d = s .args .data .now in
-    let l = length-object (s .args .version) d (s .args .o) (s .args .pos) in
+    let l = length-header-object (s .args .version) d (s .args .o) (s .args .pos) 20 in
     let n = part-length d (s .args .pos) 20 (omega arith) in
     let q : s .args .pos + 20 - s .args .pos ≡ 20 = omega arith in
     rw q (omega arith)
@@ -54,7 +53,7 @@ unfolding code
 end-container-requires c κs =
     let s = c .before .before .before .before .before .before .before .before .before .before .before .before in
     let d = s .args .data .now in
-    let l = length-object (s .args .version) d (s .args .o) (s .args .pos) in
+    let l = length-header-object (s .args .version) d (s .args .o) (s .args .pos) 20 in
     let n = part-length d (s .args .pos) 20 (omega arith) in
     let q : s .args .pos + 20 - s .args .pos ≡ 20 = omega arith in
     let w = rw q at (c .before .before .before .push-header-fields .ensures) in

@@ -1,7 +1,7 @@
 use Rattle.answer.specs.declared.Answer.{Answer}
-use Rattle.answer.proofs.Outer.{length-outer}
 use Rattle.lsa_headers.proofs.Objects.{headers-after, headers-cut}
-use Rattle.format.proofs.Bounds.{leftover-bound}
+use Rattle.format.proofs.Lengths.{length-outer}
+use Rattle.format.proofs.Sizes.{headers-size}
 use Rattle.format.proofs.Lists.{whole-count}
 use Rattle.format.proofs.Refusals.{limits, walk-refused, walk-full, walk-done}
 use Rattle.format.specs.Walks.{headersOf, refusal, outer, headerObject, headers, unparsedId}
@@ -12,7 +12,7 @@ use lib.ListN.{length}
 use native.Mathlib.Omega.{arith}
 use mathlib.Core.List.{List, flatMap}
 use mathlib.Core.Path.{_≡_, refl, sym, ap, _∙_}
-use Prim.Native.Nat.{ℕ, _+_, _-_, _*_, _/_}
+use Prim.Native.Nat.{ℕ, _+_, _-_, _/_, _<_}
 use borrow.Author.Needs.{needs}
 use Rattle.lsa_headers.proofs.push_lsa_headers.Statement.{statement}
 use Rattle.lsa_headers.proofs.push_lsa_headers.Tie as tie
@@ -69,18 +69,24 @@ add-length c =
 measure-unparsed-requires : tie.Need-measure-unparsed-requires
 measure-unparsed-requires c κs = search needs
 
-add-length-2 : tie.Need-add-length-2
-add-length-2 c =
+-- the lengths that are added are those of the whole strip, and their sum is bounded
+whole : (c : tie.After-measure-unparsed) →
+    let s = c .before .before .before .before .before .before .args in
+    let es = outer (s .version) (headerObject (s .version) (s .data .now) (s .offset)) (s .data .now) (s .offset) 0 (headers (s .data .now)) in
+    (c .before .measure-headers .result + 11 + c .measure-unparsed .result ≡ length (encode es)) × (length (encode es) < 4294967296)
+whole c =
     let s = c .before .before .before .before .before .before in
     let v = s .args .version in
     let d = s .args .data .now in
     let o = s .args .offset in
-    let before = s .args .strip .now in
-    let n = refusal v d o 0 in
-    let e = c .before .before .before .refusal-of .ensures in
-    let z : refusal v d o 0 ≡ 0 = sym e ∙ c .before .before .if1 .left in
-    let m = limits v d o 0 z in
-    omega (arith, c .measure-unparsed .ensures 0 0, leftover-bound 0 d 0 (length d / 20 * 20))
+    let z : refusal v d o 0 ≡ 0 = sym (c .before .before .before .refusal-of .ensures) ∙ c .before .before .if1 .left in
+    let l = length-outer v (headerObject v d o) d o 0 (headers d) in
+    let f = ap (λ (ss : List Span). length (encode (flatMap (headerObject v d o) ss))) (headers-cut d (length d / 20) refl) in
+    let t = ap (λ (x : ℕ). length (encode (leftover (unparsedId v) d o x))) (headers-after d (length d / 20) refl) in
+    (omega (arith, c .before .measure-headers .ensures .0 o, c .measure-unparsed .ensures (unparsedId v) o), headers-size v d o (limits v d o 0 z .data-fits))
+
+add-length-2 : tie.Need-add-length-2
+add-length-2 c = let w = whole c in omega arith
 
 no-room-requires : tie.Need-no-room-requires
 no-room-requires c κs = search needs
@@ -97,15 +103,10 @@ returns-2 c =
     let e = c .before .before .before .before .before .refusal-of .ensures in
     let z : refusal v d o 0 ≡ 0 = sym e ∙ c .before .before .before .before .if1 .left in
     let m = limits v d o 0 z in
-    let q = headers-after d (length d / 20) refl in
-    let k = headers-cut d (length d / 20) refl in
-    let l = length-outer v (headerObject v d o) d o 0 (headers d) in
-    let f = ap (λ (ss : List Span). length (encode (flatMap (headerObject v d o) ss))) k in
-    let t = ap (λ (x : ℕ). length (encode (leftover (unparsedId v) d o x))) q in
-    let size : c .before .before .before .measure-headers .result + 11 + c .before .before .measure-unparsed .result ≡ length (encode (outer v (headerObject v d o) d o 0 (headers d))) = omega (arith, c .before .before .before .measure-headers .ensures .0 o, c .before .before .measure-unparsed .ensures (unparsedId v) o) in
+    let size = whole (c .before .before) in
     let w = walk-full n (outer v (headerObject v d o) d o 0 (headers d)) (length (headers d)) (length d - after 0 (headers d)) before z (omega arith) in
     let f = ap (λ (a : Answer). a .length) (c .no-room .ensures) in
-    (rw (w .0, ← size) (c .no-room .ensures), (sym (w .1), omega (arith, c .before .before .measure-unparsed .ensures 0 0, leftover-bound 0 d 0 (length d / 20 * 20))))
+    (rw (w .0, ← size .0) (c .no-room .ensures), (sym (w .1), omega arith))
 
 cast-write-headers : tie.Need-cast-write-headers
 cast-write-headers c =
@@ -131,12 +132,7 @@ write-headers-requires c κs =
     let e = c .before .before .before .before .before .refusal-of .ensures in
     let z : refusal v d o 0 ≡ 0 = sym e ∙ c .before .before .before .before .if1 .left in
     let m = limits v d o 0 z in
-    let q = headers-after d (length d / 20) refl in
-    let k = headers-cut d (length d / 20) refl in
-    let l = length-outer v (headerObject v d o) d o 0 (headers d) in
-    let f = ap (λ (ss : List Span). length (encode (flatMap (headerObject v d o) ss))) k in
-    let t = ap (λ (x : ℕ). length (encode (leftover (unparsedId v) d o x))) q in
-    let size : c .before .before .before .measure-headers .result + 11 + c .before .before .measure-unparsed .result ≡ length (encode (outer v (headerObject v d o) d o 0 (headers d))) = omega (arith, c .before .before .before .measure-headers .ensures .0 o, c .before .before .measure-unparsed .ensures (unparsedId v) o) in
+    let size = whole (c .before .before) in
     omega arith
 
 sub-t10 : tie.Need-sub-t10
@@ -157,16 +153,11 @@ returns-3 c =
     let e = c .before .before .before .before .before .before .before .before .refusal-of .ensures in
     let z : refusal v d o 0 ≡ 0 = sym e ∙ c .before .before .before .before .before .before .before .if1 .left in
     let m = limits v d o 0 z in
-    let q = headers-after d (length d / 20) refl in
-    let k = headers-cut d (length d / 20) refl in
-    let l = length-outer v (headerObject v d o) d o 0 (headers d) in
-    let f = ap (λ (ss : List Span). length (encode (flatMap (headerObject v d o) ss))) k in
-    let t = ap (λ (x : ℕ). length (encode (leftover (unparsedId v) d o x))) q in
-    let size : c .before .before .before .before .before .before .measure-headers .result + 11 + c .before .before .before .before .before .measure-unparsed .result ≡ length (encode (outer v (headerObject v d o) d o 0 (headers d))) = omega (arith, c .before .before .before .before .before .before .measure-headers .ensures .0 o, c .before .before .before .before .before .measure-unparsed .ensures (unparsedId v) o) in
+    let size = whole (c .before .before .before .before .before) in
     let w = walk-done n (outer v (headerObject v d o) d o 0 (headers d)) (length (headers d)) (length d - after 0 (headers d)) before z (omega arith) in
     let r = whole-count 20 d 0 (omega arith) in
     let rc : length (headers d) ≡ length d / 20 = r ∙ omega arith in
-    (rw (w .0, ← size, rc, q) refl, (c .before .before .write-headers .ensures .contents ∙ sym (w .1), omega (arith, c .before .before .before .before .before .measure-unparsed .ensures 0 0, leftover-bound 0 d 0 (length d / 20 * 20))))
+    (rw (w .0, ← size .0, rc, headers-after d (length d / 20) refl) refl, (c .before .before .write-headers .ensures .contents ∙ sym (w .1), omega arith))
 
 pub push-lsa-headers-spec : {M : Type 1} → statement M
 push-lsa-headers-spec =

@@ -3,7 +3,8 @@ use Rattle.format.specs.Cut.{Span}
 use lib.ListN.{length}
 use mathlib.Core.List.{List, flatMap}
 use Prim.Native.Nat.{ℕ, _+_, _*_}
-use Rattle.answer.proofs.Outer.{length-outer, outer-wrote}
+use Rattle.answer.proofs.Outer.{outer-wrote}
+use Rattle.format.proofs.Lengths.{length-outer}
 use Rattle.lsa_headers.proofs.Objects.{headers-after, headers-cut}
 use Rattle.format.specs.Walks.{headerObject, headers, unparsedId}
 use Rattle.format.specs.Strip.{code, encode}

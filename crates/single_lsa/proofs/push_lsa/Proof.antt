@@ -1,5 +1,6 @@
 use Rattle.answer.specs.declared.Answer.{Answer}
 use Rattle.format.proofs.Refusals.{limits, walk-refused, walk-full, walk-done}
+use Rattle.format.proofs.Sizes.{lsa-size}
 use Rattle.format.specs.Walks.{lsaOf, refusal, lsaEntries, lsaTail}
 use native.Mathlib.Omega.{arith}
 use mathlib.Core.Path.{_≡_, refl, sym, ap, _∙_}
@@ -58,7 +59,7 @@ returns-2 c =
     let size = c .before .before .measure-lsa .ensures .0 o in
     let w = walk-full n (lsaEntries v d o) 1 (lsaTail v d) before z (omega arith) in
     let f = ap (λ (a : Answer). a .length) (c .no-room .ensures) in
-    (rw (w .0, ← size) (c .no-room .ensures), (sym (w .1), omega arith))
+    (rw (w .0, ← size) (c .no-room .ensures), (sym (w .1), omega (arith, lsa-size v d o (m .enough) (m .data-fits))))
 
 cast-push-lsa-fields : tie.Need-cast-push-lsa-fields
 cast-push-lsa-fields c =
@@ -104,7 +105,7 @@ returns-3 c =
     let m = limits v d o 20 z in
     let size = c .before .before .before .before .before .measure-lsa .ensures .0 o in
     let w = walk-done n (lsaEntries v d o) 1 (lsaTail v d) before z (omega arith) in
-    (rw (w .0, ← size, c .before .before .before .before .before .measure-lsa .ensures .1 .0) refl, (c .before .before .push-lsa-fields .ensures .contents ∙ sym (w .1), omega arith))
+    (rw (w .0, ← size, c .before .before .before .before .before .measure-lsa .ensures .1 .0) refl, (c .before .before .push-lsa-fields .ensures .contents ∙ sym (w .1), omega (arith, lsa-size v d o (m .enough) (m .data-fits))))
 
 pub push-lsa-spec : {M : Type 1} → statement M
 push-lsa-spec =

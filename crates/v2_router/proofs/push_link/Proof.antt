@@ -4,7 +4,8 @@ use Rattle.format.proofs.Lists.{contained}
 use Rattle.format.proofs.Unique.{span}
 use Rattle.format.specs.Strip.{encode, code}
 use Rattle.format.specs.V2.{link}
-use Rattle.v2_router.proofs.Laws.{link-inside, length-link}
+use Rattle.format.proofs.Rules.{link-inside}
+use Rattle.format.proofs.Lengths.{length-link}
 use borrow.Author.Needs.{needs}
 use Rattle.v2_router.proofs.push_link.Statement.{statement}
 use Rattle.v2_router.proofs.push_link.Tie as tie

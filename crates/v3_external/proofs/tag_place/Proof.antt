@@ -1,6 +1,6 @@
 use native.Mathlib.Omega.{arith}
 use borrow.Author.Needs.{needs}
-use Rattle.v3_prefix.proofs.Lengths.{at-most}
+use Rattle.format.proofs.Lengths.{at-most}
 use Rattle.v3_external.proofs.tag_place.Statement.{statement}
 use Rattle.v3_external.proofs.tag_place.Tie as tie
 

@@ -7,7 +7,8 @@ use Rattle.format.specs.V3.{prefix}
 use Rattle.format.proofs.Lists.{contained}
 use Rattle.format.proofs.Unique.{span}
 use Rattle.v3_prefix.specs.Parts.{prefixFields}
-use Rattle.v3_prefix.proofs.Lengths.{length-prefix-fields, length-prefix}
+use Rattle.format.proofs.Lengths.{length-prefix}
+use Rattle.v3_prefix.proofs.Lengths.{length-prefix-fields}
 use Rattle.v3_prefix.proofs.push_prefix.Statement.{statement}
 use Rattle.v3_prefix.proofs.push_prefix.Tie as tie
 

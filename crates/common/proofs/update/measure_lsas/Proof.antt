@@ -1,7 +1,7 @@
-use Rattle.answer.proofs.Outer.{part-length}
 use Rattle.fit.proofs.Laws.{some-of, none-of}
-use Rattle.common.proofs.Objects.{length-lsa-object}
-use Rattle.format.proofs.Loop.{Measuring, spread, measure-begin, measure-turn, measure-finish}
+use Rattle.format.proofs.Lengths.{part-length, length-lsa-object}
+use Rattle.format.proofs.Sizes.{lsas-bound}
+use Rattle.format.proofs.Loop.{Measuring, spread, measure-begin, measure-turn, measure-room, measure-finish}
 use Rattle.format.proofs.Rules.{inside}
 use Rattle.format.proofs.Unique.{cut-none, span}
 use Rattle.format.specs.Walks.{lsaObject}
@@ -19,13 +19,13 @@ use Rattle.common.proofs.update.measure_lsas.Statement.{statement}
 use Rattle.common.proofs.update.measure_lsas.Tie as tie
 
 abbrev Inv-loop : tie.InvT-loop
-Inv-loop version «data» count total₀ pos₀ left₀ total pos left = ((o : ℕ) → Measuring recordRule (lsaObject version «data» o) «data» count 4 total pos left) × (pos ≤ length «data») × (total ≤ 19 * pos) × (left ≤ count)
+Inv-loop version «data» count total₀ pos₀ left₀ total pos left = ((o : ℕ) → Measuring recordRule (lsaObject version «data» o) «data» count 4 total pos left) × (pos ≤ length «data») × (left ≤ count)
 
 abbrev μ-loop : tie.MeasureT-loop
 μ-loop version «data» count total₀ pos₀ left₀ total pos left = left
 
 loop-holds : tie.Need-loop-holds Inv-loop μ-loop
-loop-holds c = (λ o. measure-begin recordRule _ _ _ 4, omega arith, omega arith, omega arith)
+loop-holds c = (λ o. measure-begin recordRule _ _ _ 4, omega arith, omega arith)
 
 record-fits-requires : tie.Need-record-fits-requires Inv-loop μ-loop
 record-fits-requires c κs = search needs
@@ -44,10 +44,21 @@ add-q c =
     let h = inside 20 _ _ _ _ (fits c) in
     omega (arith, h .within)
 
+-- the sum with the next object is no more than that of all objects
+next : (c : tie.After-known-told Inv-loop μ-loop) →
+    let s = c .before .before .before .before .before .before .before .args in
+    let l = c .before .before .before .before .before .loop in
+    l .total + length (encode (lsaObject (s .version) (s .data .now) 0 (span (l .pos) (c .before .n .given .0 .0)))) ≤ 19 * length (s .data .now)
+next c =
+    let s = c .before .before .before .before .before .before .before .args in
+    let l = c .before .before .before .before .before .loop in
+    let m = measure-room recordRule (lsaObject (s .version) (s .data .now) 0) (s .data .now) (s .count) 4 (c .before .n .given .0 .0) (l .inv .0 0) (omega arith) (fits c) in
+    omega (arith, lsas-bound (s .version) (s .data .now) 0 (s .count))
+
 add-total : tie.Need-add-total Inv-loop μ-loop
 add-total c =
-    let h = inside 20 _ _ _ _ (fits c) in
-    omega (arith, h .within)
+    let s = c .before .before .before .before .before .before .before .args in
+    omega (arith, next c, length-lsa-object (s .version) (s .data .now) 0 (c .before .before .before .before .before .loop .pos) (c .before .n .given .0 .0))
 
 sub-measure-lsa : tie.Need-sub-measure-lsa Inv-loop μ-loop
 sub-measure-lsa c =
@@ -75,13 +86,12 @@ measure-lsa-requires c κs =
 
 add-total-2 : tie.Need-add-total-2 Inv-loop μ-loop
 add-total-2 c =
-    let h = inside 20 _ _ _ _ (fits (c .before .before .before)) in
+    let s = c .before .before .before .before .before .before .before .before .before .before .args in
     let p = c .before .before .before .before .before .before .before .before .loop .pos in
     let n = c .before .before .before .before .n .given .0 .0 in
     let q : p + n - p ≡ n = omega arith in
-    let m = part-length (c .before .before .before .before .before .before .before .before .before .before .args .data .now) p n (h .within) in
-    let b = rw q at (c .before .measure-lsa .ensures .1 .1) in
-    omega (arith, h .within, b)
+    let a = rw q at (c .before .measure-lsa .ensures .0) in
+    omega (arith, next (c .before .before .before), length-lsa-object (s .version) (s .data .now) 0 p n, a (0 + p))
 
 sub-left : tie.Need-sub-left Inv-loop μ-loop
 sub-left c = omega arith
@@ -99,13 +109,11 @@ loop-again c =
     let s = c .before .before .before .before .before .before .before .before .before .before .args in
     let d = s .data .now in
     let l = c .before .before .before .before .before .before .before .before .loop in
-    let a = rw q at (c .before .measure-lsa .ensures .0) in
-    let b = rw q at (c .before .measure-lsa .ensures .1 .1) in (
+    let a = rw q at (c .before .measure-lsa .ensures .0) in (
       λ o.
           let t : l .total + 11 + c .before .measure-lsa .result .length ≡ l .total + length (encode (lsaObject (s .version) d o (span p n))) = omega (arith, length-lsa-object (s .version) d o p n, a (o + p)) in
           rw t (measure-turn recordRule (lsaObject (s .version) d o) d _ 4 n (l .inv .0 o) (omega arith) (fits (c .before .before .before))),
       h .within,
-      omega (arith, h .enough, b),
       omega arith,
     )
 
@@ -129,10 +137,11 @@ cast-t20 c = omega arith
 returns : tie.Need-returns Inv-loop μ-loop
 unfolding spread
 returns c =
+    let s = c .before .before .before .args in
     let e = stopped c in
     let l = c .before .loop in
     let f = measure-finish recordRule _ _ _ 4 (l .inv .0 0) (e .0) in
-    (λ o. measure-finish recordRule _ _ _ 4 (l .inv .0 o) (e .0) .0, (sym (f .2), (e .1 ∙ f .1, (omega (arith, e .1), omega (arith, e .1)))))
+    (λ o. measure-finish recordRule _ _ _ 4 (l .inv .0 o) (e .0) .0, (sym (f .2), (e .1 ∙ f .1, (omega (arith, e .1), omega (arith, f .0, lsas-bound (s .version) (s .data .now) 0 (s .count))))))
 
 pub measure-lsas-spec : {M : Type 1} → statement M
 measure-lsas-spec =

@@ -3,8 +3,7 @@ use Rattle.format.proofs.Lists.{contained}
 use Rattle.format.proofs.Wrote.{kept}
 use Rattle.format.specs.Walks.{lsaObject}
 use Rattle.format.specs.Strip.{code}
-use Rattle.answer.proofs.Outer.{part-length}
-use Rattle.common.proofs.Objects.{length-lsa-object}
+use Rattle.format.proofs.Lengths.{part-length, length-lsa-object}
 use native.Mathlib.Omega.{arith}
 use mathlib.Core.Path.{_≡_}
 use Prim.Native.Nat.{_+_, _-_}

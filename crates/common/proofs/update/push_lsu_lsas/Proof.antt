@@ -1,6 +1,6 @@
 use Rattle.answer.specs.declared.Answer.{Answer}
-use Rattle.answer.proofs.Outer.{length-outer}
-use Rattle.format.proofs.Bounds.{leftover-bound}
+use Rattle.format.proofs.Lengths.{length-outer}
+use Rattle.format.proofs.Sizes.{update-size}
 use Rattle.format.proofs.Refusals.{limits, walk-refused, walk-full, walk-done}
 use Rattle.format.specs.Walks.{updateOf, refusal, outer, lsaObject, lsas, unparsedId}
 use Rattle.format.specs.Body.{leftover}
@@ -9,7 +9,7 @@ use Rattle.format.specs.Strip.{encode}
 use lib.ListN.{length}
 use native.Mathlib.Omega.{arith}
 use mathlib.Core.Path.{_≡_, refl, sym, ap, _∙_}
-use Prim.Native.Nat.{ℕ, _+_, _-_}
+use Prim.Native.Nat.{ℕ, _+_, _-_, _<_}
 use borrow.Author.Needs.{needs}
 use Rattle.common.proofs.update.push_lsu_lsas.Statement.{statement}
 use Rattle.common.proofs.update.push_lsu_lsas.Tie as tie
@@ -66,19 +66,24 @@ add-length c =
 measure-unparsed-requires : tie.Need-measure-unparsed-requires
 measure-unparsed-requires c κs = search needs
 
-add-length-2 : tie.Need-add-length-2
-add-length-2 c =
+-- the lengths that are added are those of the whole strip, and their sum is bounded
+whole : (c : tie.After-measure-unparsed) →
+    let s = c .before .before .before .before .before .before .before .args in
+    let es = outer (s .version) (lsaObject (s .version) (s .data .now) (s .offset)) (s .data .now) (s .offset) 4 (lsas (s .data .now) (s .count)) in
+    (c .before .before .measure-lsas .result .length + 11 + c .measure-unparsed .result ≡ length (encode es)) × (length (encode es) < 4294967296)
+whole c =
     let s = c .before .before .before .before .before .before .before in
     let v = s .args .version in
     let d = s .args .data .now in
     let k = s .args .count in
     let o = s .args .offset in
-    let before = s .args .strip .now in
-    let n = refusal v d o 4 in
-    let e = c .before .before .before .before .refusal-of .ensures in
-    let z : refusal v d o 4 ≡ 0 = sym e ∙ c .before .before .before .if1 .left in
-    let m = limits v d o 4 z in
-    omega (arith, c .measure-unparsed .ensures 0 0, leftover-bound 0 d 0 (c .before .before .measure-lsas .result .end))
+    let z : refusal v d o 4 ≡ 0 = sym (c .before .before .before .before .refusal-of .ensures) ∙ c .before .before .before .if1 .left in
+    let l = length-outer v (lsaObject v d o) d o 4 (lsas d k) in
+    let t = ap (λ (x : ℕ). length (encode (leftover (unparsedId v) d o x))) (c .before .before .measure-lsas .ensures .1 .1 .0) in
+    (omega (arith, c .before .before .measure-lsas .ensures .0 o, c .measure-unparsed .ensures (unparsedId v) o), update-size v d o k (limits v d o 4 z .data-fits))
+
+add-length-2 : tie.Need-add-length-2
+add-length-2 c = let w = whole c in omega arith
 
 no-room-requires : tie.Need-no-room-requires
 no-room-requires c κs = search needs
@@ -96,13 +101,10 @@ returns-2 c =
     let e = c .before .before .before .before .before .before .refusal-of .ensures in
     let z : refusal v d o 4 ≡ 0 = sym e ∙ c .before .before .before .before .before .if1 .left in
     let m = limits v d o 4 z in
-    let q = c .before .before .before .before .measure-lsas .ensures .1 .1 .0 in
-    let l = length-outer v (lsaObject v d o) d o 4 (lsas d k) in
-    let t = ap (λ (x : ℕ). length (encode (leftover (unparsedId v) d o x))) q in
-    let size : c .before .before .before .before .measure-lsas .result .length + 11 + c .before .before .measure-unparsed .result ≡ length (encode (outer v (lsaObject v d o) d o 4 (lsas d k))) = omega (arith, c .before .before .before .before .measure-lsas .ensures .0 o, c .before .before .measure-unparsed .ensures (unparsedId v) o) in
+    let size = whole (c .before .before) in
     let w = walk-full n (outer v (lsaObject v d o) d o 4 (lsas d k)) (length (lsas d k)) (length d - after 4 (lsas d k)) before z (omega arith) in
     let f = ap (λ (a : Answer). a .length) (c .no-room .ensures) in
-    (rw (w .0, ← size) (c .no-room .ensures), (sym (w .1), omega (arith, c .before .before .measure-unparsed .ensures 0 0, leftover-bound 0 d 0 (c .before .before .before .before .measure-lsas .result .end))))
+    (rw (w .0, ← size .0) (c .no-room .ensures), (sym (w .1), omega arith))
 
 cast-write-lsas : tie.Need-cast-write-lsas
 cast-write-lsas c =
@@ -131,9 +133,7 @@ write-lsas-requires c κs =
     let z : refusal v d o 4 ≡ 0 = sym e ∙ c .before .before .before .before .before .if1 .left in
     let m = limits v d o 4 z in
     let q = c .before .before .before .before .measure-lsas .ensures .1 .1 .0 in
-    let l = length-outer v (lsaObject v d o) d o 4 (lsas d k) in
-    let t = ap (λ (x : ℕ). length (encode (leftover (unparsedId v) d o x))) q in
-    let size : c .before .before .before .before .measure-lsas .result .length + 11 + c .before .before .measure-unparsed .result ≡ length (encode (outer v (lsaObject v d o) d o 4 (lsas d k))) = omega (arith, c .before .before .before .before .measure-lsas .ensures .0 o, c .before .before .measure-unparsed .ensures (unparsedId v) o) in
+    let size = whole (c .before .before) in
     (omega arith, (omega arith, (omega arith, (omega arith, (q, omega arith)))))
 
 sub-t12 : tie.Need-sub-t12
@@ -156,11 +156,9 @@ returns-3 c =
     let z : refusal v d o 4 ≡ 0 = sym e ∙ c .before .before .before .before .before .before .before .before .if1 .left in
     let m = limits v d o 4 z in
     let q = c .before .before .before .before .before .before .before .measure-lsas .ensures .1 .1 .0 in
-    let l = length-outer v (lsaObject v d o) d o 4 (lsas d k) in
-    let t = ap (λ (x : ℕ). length (encode (leftover (unparsedId v) d o x))) q in
-    let size : c .before .before .before .before .before .before .before .measure-lsas .result .length + 11 + c .before .before .before .before .before .measure-unparsed .result ≡ length (encode (outer v (lsaObject v d o) d o 4 (lsas d k))) = omega (arith, c .before .before .before .before .before .before .before .measure-lsas .ensures .0 o, c .before .before .before .before .before .measure-unparsed .ensures (unparsedId v) o) in
+    let size = whole (c .before .before .before .before .before) in
     let w = walk-done n (outer v (lsaObject v d o) d o 4 (lsas d k)) (length (lsas d k)) (length d - after 4 (lsas d k)) before z (omega arith) in
-    (rw (w .0, ← size, ← c .before .before .before .before .before .before .before .measure-lsas .ensures .1 .0, ← q) refl, (c .before .before .write-lsas .ensures .contents ∙ sym (w .1), omega (arith, c .before .before .before .before .before .measure-unparsed .ensures 0 0, leftover-bound 0 d 0 (c .before .before .before .before .before .before .before .measure-lsas .result .end))))
+    (rw (w .0, ← size .0, ← c .before .before .before .before .before .before .before .measure-lsas .ensures .1 .0, ← q) refl, (c .before .before .write-lsas .ensures .contents ∙ sym (w .1), omega arith))
 
 pub push-lsu-lsas-spec : {M : Type 1} → statement M
 push-lsu-lsas-spec =

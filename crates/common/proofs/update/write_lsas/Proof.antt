@@ -1,4 +1,5 @@
-use Rattle.answer.proofs.Outer.{length-outer, outer-wrote}
+use Rattle.answer.proofs.Outer.{outer-wrote}
+use Rattle.format.proofs.Lengths.{length-outer}
 use Rattle.format.specs.Walks.{lsaObject, lsas, unparsedId}
 use Rattle.format.specs.Body.{leftover}
 use Rattle.format.specs.Strip.{code, encode}

@@ -6,7 +6,7 @@ use Rattle.body.proofs.Laws.{measured-is-decoded, measured-is-raw, to-the-end, 
 use Rattle.format.specs.Strip.{encode}
 use Rattle.format.specs.Header.{headerEntries2}
 use Rattle.format.specs.V2.{bodyOf2, lsaEntries2, lsaTail2}
-use Rattle.v2_lsa.proofs.Bounds.{lsa-bound}
+use Rattle.format.proofs.Sizes.{lsa-bound2}
 use borrow.Author.Needs.{needs}
 use Rattle.v2_lsa.proofs.measure.measure_lsa.Statement.{statement}
 use Rattle.v2_lsa.proofs.measure.measure_lsa.Tie as tie
@@ -67,13 +67,13 @@ unparsed c o =
 add-t17 : tie.Need-add-t17
 add-t17 c =
     let t = parsed c 0 in
-    let l = lsa-bound (c .before .before .before .before .before .before .before .before .before .before .args .lsa .now) 0 (c .before .before .before .before .before .before .before .before .before .before .pre .0) in
+    let l = lsa-bound2 (c .before .before .before .before .before .before .before .before .before .before .args .lsa .now) 0 (c .before .before .before .before .before .before .before .before .before .before .pre .0) in
     omega arith
 
 add-t18 : tie.Need-add-t18
 add-t18 c =
     let t = parsed c 0 in
-    let l = lsa-bound (c .before .before .before .before .before .before .before .before .before .before .args .lsa .now) 0 (c .before .before .before .before .before .before .before .before .before .before .pre .0) in
+    let l = lsa-bound2 (c .before .before .before .before .before .before .before .before .before .before .args .lsa .now) 0 (c .before .before .before .before .before .before .before .before .before .before .pre .0) in
     omega arith
 
 bytes-from-requires : tie.Need-bytes-from-requires
@@ -88,7 +88,7 @@ measure-unparsed-requires-2 c κs = search needs
 add-t20 : tie.Need-add-t20
 add-t20 c =
     let t = unparsed c 0 in
-    let l = lsa-bound (c .before .before .before .before .before .before .before .before .before .args .lsa .now) 0 (c .before .before .before .before .before .before .before .before .before .pre .0) in
+    let l = lsa-bound2 (c .before .before .before .before .before .before .before .before .before .args .lsa .now) 0 (c .before .before .before .before .before .before .before .before .before .pre .0) in
     omega arith
 
 returns : tie.Need-returns

@@ -6,7 +6,7 @@ use Rattle.format.proofs.Lists.{fixed-cut}
 use Rattle.format.proofs.Unique.{span}
 use Rattle.format.specs.Strip.{encode, code, container}
 use Rattle.format.specs.V2.{linkTos, linkTosSpans}
-use Rattle.v2_router.proofs.Laws.{length-link}
+use Rattle.format.proofs.Lengths.{length-link}
 use borrow.Author.Needs.{needs}
 use Rattle.v2_router.proofs.measure.measure_link.Statement.{statement}
 use Rattle.v2_router.proofs.measure.measure_link.Tie as tie

@@ -1,7 +1,6 @@
 use native.Mathlib.Omega.{arith}
 use borrow.Author.Needs.{needs}
-use Rattle.v3_prefix.proofs.Lengths.{at-most}
-use Rattle.v3_external.proofs.Lengths.{length-optional}
+use Rattle.format.proofs.Lengths.{at-most, length-optional}
 use Rattle.v3_external.proofs.measure.measure_external_optional.Statement.{statement}
 use Rattle.v3_external.proofs.measure.measure_external_optional.Tie as tie
 

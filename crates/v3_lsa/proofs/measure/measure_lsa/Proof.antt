@@ -1,16 +1,14 @@
-use Prim.Native.Nat.{ℕ, _+_, _-_}
+use Prim.Native.Nat.{ℕ, _+_}
 use native.Mathlib.Omega.{arith}
-use mathlib.Core.List.{List}
-use mathlib.Core.Path.{_≡_, sym, ap, _∙_}
-use lib.ListN.{length, take, drop, length-drop}
+use mathlib.Core.Path.{_≡_, sym, _∙_}
+use lib.ListN.{length, drop}
 use borrow.Author.Needs.{needs}
 use Rattle.format.specs.Header.{headerSize, headerEntries3}
-use Rattle.format.specs.Strip.{Entry, encode, code}
-use Rattle.format.specs.V3.{functionCode, bodyOf3, lsaEntries3, lsaTail3}
-use Rattle.body.proofs.Laws.{length-lsa, measured-is-decoded, measured-is-raw, to-the-end}
+use Rattle.format.specs.Strip.{encode}
+use Rattle.format.specs.V3.{bodyOf3, lsaEntries3, lsaTail3}
+use Rattle.format.proofs.Sizes.{lsa-bound3}
+use Rattle.body.proofs.Laws.{measured-is-decoded, measured-is-raw, to-the-end, length-decoded, length-raw}
 use Rattle.body.specs.Answers.{measuredOf}
-use Rattle.v3_lsa.proofs.Bounds.{body-bound}
-use Rattle.format.proofs.Bounds.{leftover-bound}
 use Rattle.v3_lsa.proofs.measure.measure_lsa.Statement.{statement}
 use Rattle.v3_lsa.proofs.measure.measure_lsa.Tie as tie
 
@@ -42,33 +40,31 @@ measure-unparsed-requires c κs = search needs
 answer : (c : tie.After-measure-body) (o : ℕ) → c .measure-body .result ≡ measuredOf (bodyOf3 (c .before .before .before .before .before .args .lsa .now) o)
 answer c o = rw (c .before .before .function-code .ensures, to-the-end (c .before .before .before .before .before .args .lsa .now) 20) at (c .measure-body .ensures (o + headerSize))
 
-add-t13 : tie.Need-add-t13
-unfolding headerEntries3 encode code
-add-t13 c =
+-- The lengths that are added are those of the LSA's parts.
+parsed : (c : tie.After-measure-unparsed) (o : ℕ)
+    → c .before .before .before .before .before .before .before .measure-lsa-header-fields .result + (c .before .before .at .given .0 .0 + c .measure-unparsed .result) ≡ length (encode (lsaEntries3 (c .before .before .before .before .before .before .before .before .before .args .lsa .now) o))
+unfolding lsaEntries3
+parsed c o =
     let d = c .before .before .before .before .before .before .before .before .before .args .lsa .now in
-    let b = drop headerSize d in
-    let g = c .before .before .at .given in
-    let x = measured-is-decoded (bodyOf3 d 0) (g .0 .0) (g .0 .1 .0) (c .before .before .before .before .measure-body .result) (answer (c .before .before .before .before) 0) (g .1) in
-    let h = body-bound b 20 (functionCode d) in
-    let e = c .before .before .before .before .before .before .before .measure-lsa-header-fields .ensures d 0 in
-    let m = length-drop headerSize d in
-    let u = c .measure-unparsed .ensures 33 20 in
-    let v = leftover-bound 33 (take (length d - 20) (drop 20 d)) 20 (g .0 .1 .0) in
+    let f = c .before .before .before .before .before .before .before .measure-lsa-header-fields .ensures d o in
+    let u = rw (to-the-end d 20) at (c .measure-unparsed .ensures 33 (o + 20)) in
+    let l = length-decoded (headerEntries3 d o) 31 33 (bodyOf3 d o) (drop 20 d) (o + 20) _ _ _ (answer (c .before .before .before .before) o) (c .before .before .at .given .1) in
     omega arith
 
-add-t14 : tie.Need-add-t14
-unfolding headerEntries3 encode code
-add-t14 c =
-    let d = c .before .before .before .before .before .before .before .before .before .args .lsa .now in
-    let b = drop headerSize d in
-    let g = c .before .before .at .given in
-    let x = measured-is-decoded (bodyOf3 d 0) (g .0 .0) (g .0 .1 .0) (c .before .before .before .before .measure-body .result) (answer (c .before .before .before .before) 0) (g .1) in
-    let h = body-bound b 20 (functionCode d) in
-    let e = c .before .before .before .before .before .before .before .measure-lsa-header-fields .ensures d 0 in
-    let m = length-drop headerSize d in
-    let u = c .measure-unparsed .ensures 33 20 in
-    let v = leftover-bound 33 (take (length d - 20) (drop 20 d)) 20 (g .0 .1 .0) in
+unparsed : (c : tie.After-measure-unparsed2) (o : ℕ) → c .before .before .before .before .before .before .measure-lsa-header-fields .result + c .measure-unparsed2 .result ≡ length (encode (lsaEntries3 (c .before .before .before .before .before .before .before .before .args .lsa .now) o))
+unfolding lsaEntries3
+unparsed c o =
+    let d = c .before .before .before .before .before .before .before .before .args .lsa .now in
+    let f = c .before .before .before .before .before .before .measure-lsa-header-fields .ensures d o in
+    let u = rw (to-the-end d 20) at (c .measure-unparsed2 .ensures 31 (o + 20)) in
+    let l = length-raw (headerEntries3 d o) 31 33 (bodyOf3 d o) (drop 20 d) (o + 20) _ (answer (c .before .before .before) o) (c .before .enum-told .given .1) in
     omega arith
+
+add-t13 : tie.Need-add-t13
+add-t13 c = let s = c .before .before .before .before .before .before .before .before .before in omega (arith, parsed c 0, lsa-bound3 (s .args .lsa .now) 0 (s .pre .0))
+
+add-t14 : tie.Need-add-t14
+add-t14 c = let s = c .before .before .before .before .before .before .before .before .before in omega (arith, parsed c 0, lsa-bound3 (s .args .lsa .now) 0 (s .pre .0))
 
 bytes-from-requires : tie.Need-bytes-from-requires
 bytes-from-requires c κs = search needs
@@ -80,50 +76,21 @@ measure-unparsed-requires-2 : tie.Need-measure-unparsed-requires-2
 measure-unparsed-requires-2 c κs = search needs
 
 add-t17 : tie.Need-add-t17
-unfolding headerEntries3 encode code
-add-t17 c =
-    let d = c .before .before .before .before .before .before .before .before .args .lsa .now in
-    let e = c .before .before .before .before .before .before .measure-lsa-header-fields .ensures d 0 in
-    let u = c .measure-unparsed2 .ensures 31 20 in
-    let v = leftover-bound 31 (take (length d - 20) (drop 20 d)) 20 0 in
-    omega arith
+add-t17 c = let s = c .before .before .before .before .before .before .before .before in omega (arith, unparsed c 0, lsa-bound3 (s .args .lsa .now) 0 (s .pre .0))
 
 returns : tie.Need-returns
-unfolding lsaEntries3 lsaTail3
+unfolding lsaTail3
 returns c =
     let d = c .before .before .before .before .before .before .before .before .before .before .args .lsa .now in
-    let b = drop headerSize d in
-    let w = to-the-end d 20 in
-    let g = c .before .before .before .at .given in
-    let r = c .before .before .before .before .before .measure-body .result in (
-      λ o.
-          let x = measured-is-decoded (bodyOf3 d o) (g .0 .0) (g .0 .1 .0) r (answer (c .before .before .before .before .before) o) (g .1) in
-          let l = length-lsa (headerEntries3 d o) 31 33 (bodyOf3 d o) b (o + headerSize) in
-          let k = ap (λ (es : List Entry). length (encode es)) (x .2 31 33 b (o + headerSize)) in
-          let e = c .before .before .before .before .before .before .before .before .measure-lsa-header-fields .ensures d o in
-          let u = rw w at (c .before .measure-unparsed .ensures 33 (o + headerSize)) in
-          omega arith,
-      rw w at (c .bytes-from .ensures) ∙ sym (measured-is-decoded (bodyOf3 d 0) (g .0 .0) (g .0 .1 .0) r (answer (c .before .before .before .before .before) 0) (g .1) .1 b),
-    )
+    let t = measured-is-decoded (bodyOf3 d 0) _ _ _ (answer (c .before .before .before .before .before) 0) (c .before .before .before .at .given .1) .1 (drop 20 d) in
+    (parsed (c .before), rw (to-the-end d 20) at (c .bytes-from .ensures) ∙ sym t)
 
 returns-2 : tie.Need-returns-2
-unfolding lsaEntries3 lsaTail3
+unfolding lsaTail3
 returns-2 c =
     let d = c .before .before .before .before .before .before .before .before .args .lsa .now in
-    let b = drop headerSize d in
-    let w = to-the-end d 20 in
-    let r = c .before .before .before .measure-body .result in
-    let g = c .before .enum-told .given .1 in (
-      λ o.
-          let x = measured-is-raw (bodyOf3 d o) r (answer (c .before .before .before) o) g in
-          let l = length-lsa (headerEntries3 d o) 31 33 (bodyOf3 d o) b (o + headerSize) in
-          let n = ap (λ (bs : List ℕ). length bs) (x .0) in
-          let k = ap (λ (es : List Entry). length (encode es)) (x .2 31 33 b (o + headerSize)) in
-          let e = c .before .before .before .before .before .before .measure-lsa-header-fields .ensures d o in
-          let u = rw w at (c .measure-unparsed2 .ensures 31 (o + headerSize)) in
-          omega arith,
-      sym (measured-is-raw (bodyOf3 d 0) r (answer (c .before .before .before) 0) g .1 b),
-    )
+    let t = measured-is-raw (bodyOf3 d 0) _ (answer (c .before .before .before) 0) (c .before .enum-told .given .1) .1 (drop 20 d) in
+    (unparsed c, sym t)
 
 pub measure-lsa-spec : {M : Type 1} → statement M
 measure-lsa-spec =

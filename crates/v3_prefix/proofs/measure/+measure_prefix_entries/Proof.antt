@@ -9,8 +9,10 @@ use borrow.Fn.PlainCycle.{Measures, is, falls, and}
 use Rattle.format.specs.Cut.{cut, after}
 use Rattle.format.specs.Strip.{encode}
 use Rattle.v3_prefix.specs.Fits.{entryFits}
-use Rattle.v3_prefix.proofs.Fits.{some-of, none-of, fits-inside}
-use Rattle.v3_prefix.proofs.Lengths.{at-most, prefixes-end, prefixes-length, prefixes-after}
+use Rattle.format.proofs.Prefix.{fits-inside}
+use Rattle.v3_prefix.proofs.Fits.{some-of, none-of}
+use Rattle.format.proofs.Lengths.{at-most}
+use Rattle.v3_prefix.proofs.Lengths.{prefixes-end, prefixes-length, prefixes-after}
 use Rattle.v3_prefix.proofs.measure.measure_prefix_entries.Kinds as measure-prefix-entries-kinds
 use Rattle.v3_prefix.proofs.measure.+measure_prefix_entries.{statement}
 use Rattle.v3_prefix.proofs.measure.+measure_prefix_entries.Tie.{close}

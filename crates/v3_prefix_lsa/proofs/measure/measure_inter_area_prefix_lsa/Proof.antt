@@ -6,7 +6,8 @@ use borrow.Author.Needs.{needs}
 use Rattle.format.specs.Strip.{encode, code}
 use Rattle.v3_prefix.specs.Fits.{fixedPrefixFits}
 use Rattle.v3_prefix_lsa.proofs.Bodies.{inter-area-prefix-raw, inter-area-prefix-decoded}
-use Rattle.v3_prefix.proofs.Fits.{some-of, none-of, fits-inside}
+use Rattle.format.proofs.Prefix.{fits-inside}
+use Rattle.v3_prefix.proofs.Fits.{some-of, none-of}
 use Rattle.v3_prefix_lsa.proofs.measure.measure_inter_area_prefix_lsa.Statement.{statement}
 use Rattle.v3_prefix_lsa.proofs.measure.measure_inter_area_prefix_lsa.Tie as tie
 

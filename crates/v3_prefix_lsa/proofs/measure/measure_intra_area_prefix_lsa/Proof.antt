@@ -8,7 +8,7 @@ use Rattle.format.specs.Cut.{cut, prefixRule}
 use Rattle.format.specs.Strip.{encode, code}
 use Rattle.format.specs.V3.{prefix, intraAreaPrefixLsa}
 use Rattle.format.proofs.Lists.{length-listing}
-use Rattle.v3_prefix.proofs.Bounds.{prefixes-bound}
+use Rattle.format.proofs.Sizes.{prefixes-bound}
 use Rattle.v3_prefix_lsa.proofs.measure.measure_intra_area_prefix_lsa.Statement.{statement}
 use Rattle.v3_prefix_lsa.proofs.measure.measure_intra_area_prefix_lsa.Tie as tie
 
@@ -34,7 +34,7 @@ add-t7 c =
     let n = c .before .before .read-be-u16 .result in
     let e = c .before .measure-prefixes .ensures .0 0 in
     let l = length-listing 29 (prefix true b 0) 0 12 (cut prefixRule b n 12) in
-    let h = prefixes-bound true b 0 n 12 (omega arith) in
+    let h = prefixes-bound b 0 true n 12 in
     omega arith
 
 returns-2 : tie.Need-returns-2

@@ -8,7 +8,7 @@ use Rattle.format.specs.Cut.{cut, prefixRule}
 use Rattle.format.specs.Strip.{encode, code}
 use Rattle.format.specs.V3.{prefix, linkLsa}
 use Rattle.format.proofs.Lists.{length-listing}
-use Rattle.v3_prefix.proofs.Bounds.{prefixes-bound}
+use Rattle.format.proofs.Sizes.{prefixes-bound}
 use Rattle.v3_prefix_lsa.proofs.measure.measure_link_lsa.Statement.{statement}
 use Rattle.v3_prefix_lsa.proofs.measure.measure_link_lsa.Tie as tie
 
@@ -37,7 +37,7 @@ add-t8 c =
     let n = c .before .before .read-be-u32 .result in
     let e = c .before .measure-prefixes .ensures .0 0 in
     let l = length-listing 29 (prefix false b 0) 0 24 (cut prefixRule b n 24) in
-    let h = prefixes-bound false b 0 n 24 (omega arith) in
+    let h = prefixes-bound b 0 false n 24 in
     omega arith
 
 returns-2 : tie.Need-returns-2
