@@ -1,5 +1,5 @@
--- How long the bytes of a strip can be of what every walk has: a header, what is left of a body, the entries of a list, and
--- the entries of a body.
+-- How many bytes of a strip at most: a header, what is left of a body, the entries of a list by the bytes that they stand
+-- for, and an LSA by its body's own entries.
 use Prim.Native.Nat.{ℕ, zero, suc, _+_, _*_, _-_, _/_, _≤_}
 use native.Mathlib.Nat.{suc-mul, mul-add, mul-le-mul-left}
 use native.Mathlib.Omega.{arith}
@@ -78,7 +78,7 @@ whole-bound n f b c h p = cut-bound n (λ b p. some n) f b c each ((length b - p
     each : (q m : ℕ) → fixedRule n b q ≡ some m → length (encode (f (span q m))) ≤ c * m
     each q m e = let i = inside n (λ b p. some n) b q m e in let k = mul-le-mul-left c (i .enough) in omega (arith, h (span q m))
 
--- An array takes eleven bytes more than its entries, and one that is opened only where it has an entry no more than that.
+-- An array that is opened only where it has an entry: eleven bytes more than its entries at most.
 pub array-bound : (i : ℕ) (f : Span → List Entry) (o p : ℕ) (ss : List Span) → length (encode (listingIfAny i f o p ss)) ≤ 11 + length (spread f ss)
 unfolding listingIfAny encode
 array-bound i f o p [] = omega arith
@@ -107,18 +107,17 @@ rest-bound r u raw b o = leftover-bound r b o 0
 pub record Sized (m : ℕ) (x : Body) : Type 0 where
   pub bound : length (encode (ownOf x)) ≤ m
 
--- A body that is shorter than its least length is raw.
-pub least-sized : {m : ℕ} (b : List ℕ) (n : ℕ) (x : Body) → (n ≤ length b → length (encode (ownOf x)) ≤ m) → Sized m (cond (ltb (length b) n) raw x)
-unfolding encode
-least-sized {m} b n x f = go (ltb (length b) n) refl
-  where
-    go : (s : Bool) → ltb (length b) n ≡ s → Sized m (cond s raw x)
-    go true e = record { bound = omega arith }
-    go false e = record { bound = f (ltb-false (length b) n e) }
-
 pub raw-sized : {m : ℕ} → Sized m raw
 unfolding encode
 raw-sized = record { bound = omega arith }
+
+-- A body that is shorter than its least length is raw.
+pub least-sized : {m : ℕ} (b : List ℕ) (n : ℕ) (x : Body) → (n ≤ length b → length (encode (ownOf x)) ≤ m) → Sized m (cond (ltb (length b) n) raw x)
+least-sized {m} b n x f = go (ltb (length b) n) refl
+  where
+    go : (s : Bool) → ltb (length b) n ≡ s → Sized m (cond s raw x)
+    go true e = raw-sized
+    go false e = record { bound = f (ltb-false (length b) n e) }
 
 -- What holds of two bodies holds of the choice.
 pub choice-sized : {m : ℕ} {x y : Body} (s : Bool) → Sized m x → Sized m y → Sized m (cond s x y)

@@ -1,4 +1,4 @@
--- How long the bytes are of the parts of an LSA and of a walk's lists, exactly.
+-- How many bytes of a strip exactly: the parts of an LSA, and a walk's objects and outer array.
 use Prim.Native.Nat.{ℕ, _+_, _≤_}
 use native.Mathlib.Omega.{arith}
 use mathlib.Core.Path.{_≡_, refl, ap, _∙_}
@@ -32,6 +32,7 @@ unfolding encode
 length-part true e = rw append-nil
 length-part false e = refl
 
+-- It takes at most what it takes when present.
 pub at-most : (s : Bool) (k : ℕ) → cond s k 0 ≤ k
 at-most true k = omega arith
 at-most false k = omega arith

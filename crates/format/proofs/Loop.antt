@@ -1,5 +1,5 @@
--- The laws of a loop that takes the entries of a cut one by one: `begin`, `turn`, `finish`, and `room` for a loop that
--- writes each entry's bytes.
+-- The laws of a loop that takes the entries of a cut one by one, and writes or measures each: `begin`, `turn`, `room` for
+-- the next entry, `finish`.
 use Prim.Native.Nat.{ℕ, zero, suc, _+_, _-_, _≤_, _<_}
 use native.Mathlib.Nat.{add-zero, not-suc-le-zero}
 use native.Mathlib.Omega.{arith}
