@@ -19,8 +19,8 @@ use Rattle.format.specs.Body.{whole}
 use Rattle.format.specs.Walks.{unless, headerObject, lsaObject, outer, unparsedId, headers, lsas, headersOf, updateOf, lsaOf}
 use Rattle.format.specs.Walks.Outcome.{refused, accepted}
 use Rattle.format.specs.Laid.{Laid, among, anything, Ending}
-use Rattle.format.specs.Laid.Ending.{no-range, leaves, takes}
-use Rattle.format.specs.Lists.{containers, taken, unparsed, holds}
+use Rattle.format.specs.Laid.Ending.{nothing-left, unparsed-left, raw-or-tlvs}
+use Rattle.format.specs.Lists.{containers, rawOrTlvs, unparsed, holds}
 use Rattle.format.proofs.Unique.{span}
 use Rattle.format.proofs.Rules.{inside}
 use Rattle.format.proofs.Refusals.{limits}
@@ -86,7 +86,7 @@ unfolding lsaOf
 lsa-laid v d o h = let a = accepts _ _ _ _ h in rw (← (a .1)) (laid-lsa v d o (limits v d o 20 (a .0) .enough))
 
 -- The tail that an accepted single LSA answers.
-pub lsa-tail : (v : ℕ) (d : List ℕ) (o : ℕ) {es : List Entry} {r t : ℕ} → lsaOf v d o ≡ accepted es r t → Ending (containers v d) (taken v) (unparsed v) o (o + length d) es t
+pub lsa-tail : (v : ℕ) (d : List ℕ) (o : ℕ) {es : List Entry} {r t : ℕ} → lsaOf v d o ≡ accepted es r t → Ending (containers v d) (rawOrTlvs v) (unparsed v) o (o + length d) es t
 unfolding lsaOf
 lsa-tail v d o h =
     let a = accepts _ _ _ _ h in
@@ -96,18 +96,18 @@ lsa-tail v d o h =
     rw (← (a .1), ← (a .2), ← q) (lsa-ends v d o)
 
 -- So a raw body (23, 31) or a tlvs range (24, 32) in the strip goes with no tail.
-pub taken-no-tail : (v : ℕ) (d : List ℕ) (o : ℕ) {es : List Entry} {r t : ℕ} → lsaOf v d o ≡ accepted es r t
-    → (i s e : ℕ) → among (taken v) i ≡ true → List·Memᴰ (bytes i s e) es → t ≡ 0
-taken-no-tail v d o {es} {r} {t} h i s e k m = go (lsa-tail v d o h)
+pub raw-or-tlvs-no-tail : (v : ℕ) (d : List ℕ) (o : ℕ) {es : List Entry} {r t : ℕ} → lsaOf v d o ≡ accepted es r t
+    → (i s e : ℕ) → among (rawOrTlvs v) i ≡ true → List·Memᴰ (bytes i s e) es → t ≡ 0
+raw-or-tlvs-no-tail v d o {es} {r} {t} h i s e k m = go (lsa-tail v d o h)
   where
     apart : (x : Bool) → among (cond x (23 ∷ 24 ∷ []) (31 ∷ 32 ∷ [])) (cond x 25 33) ≡ false
     apart true = refl
     apart false = refl
 
-    go : Ending (containers v d) (taken v) (unparsed v) o (o + length d) es t → t ≡ 0
-    go (no-range l z) = z
-    go (takes front j p q f l a b z) = z
-    go (leaves front p f l a b z) = ⊎-elim {C = t ≡ 0}
+    go : Ending (containers v d) (rawOrTlvs v) (unparsed v) o (o + length d) es t → t ≡ 0
+    go (nothing-left l z) = z
+    go (raw-or-tlvs front j p q f l a b z) = z
+    go (unparsed-left front p f l a b z) = ⊎-elim {C = t ≡ 0}
         (λ n. let y : _≡_ {A = ℕ} 0 1 = cc (laid-member (bytes i s e) (λ w. let y : _≡_ {A = ℕ} 0 1 = cc in omega arith) l n .passes) in absurd (omega arith))
         (λ n. let w : i ≡ unparsed v = cc (List·Memᴰ·eq-of-singleton n) in let y : _≡_ {A = ℕ} 0 1 = cc (rw w at k, apart (eqb v 2)) in absurd (omega arith))
         (List·Memᴰ·append-cases front (rw f at m))
