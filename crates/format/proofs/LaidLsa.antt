@@ -22,8 +22,8 @@ use Rattle.format.specs.V3 as v3
 use Rattle.format.specs.Walks.{lsaEntries, lsaTail}
 use Rattle.format.specs.Laid.{start, end, Laid, among, only, Ending}
 use Rattle.format.specs.Laid.Laid.{none}
-use Rattle.format.specs.Laid.Ending.{no-range, leaves, takes}
-use Rattle.format.specs.Lists.{from, containers2, containers3, containers, taken, unparsed, holds}
+use Rattle.format.specs.Laid.Ending.{nothing-left, unparsed-left, raw-or-tlvs}
+use Rattle.format.specs.Lists.{from, containers2, containers3, containers, rawOrTlvs, unparsed, holds}
 use Rattle.format.proofs.Unique.{span}
 use Rattle.format.proofs.Rules.{inside}
 use Rattle.format.proofs.Laid.{allHave, AllIn, cut-inside, fixed-length, fixed-end, after-from, widen, laid-fields, laid-append, laid-container, laid-cond, laid-listing, laid-listing-if, weaken, only-more}
@@ -134,6 +134,14 @@ module _ {tlvs : ℕ} {b : List ℕ} {o : ℕ} where
       go true e = is-raw
       go false e = h (ltb-false (length b) n e)
 
+  -- the same where the containers are those of a choice around it
+  raw-below : (n : ℕ) {c : List ℕ} {x x′ : Body} → (n ≤ length b → BodyLaid tlvs b o c x x′) → BodyLaid tlvs b o c (cond (ltb (length b) n) raw x) (cond (ltb (length b) n) raw x′)
+  raw-below n {c} {x} {x′} h = go (ltb (length b) n) refl
+    where
+      go : (t : Bool) → ltb (length b) n ≡ t → BodyLaid tlvs b o c (cond t raw x) (cond t raw x′)
+      go true e = is-raw
+      go false e = h (ltb-false (length b) n e)
+
   -- a row of fields up to a place, and the array of a list from there on
   module _ {c : List ℕ} {es′ : List Entry} (fields : List Entry) (i p : ℕ) (f : Span → List Entry) (least : ℕ) (declared : Rule) (k : ℕ)
       (t : allHave (only c []) fields ≡ true) (in-front : AllIn o (o + p) fields) (g : among c i ≡ true) (h : p ≤ length b)
@@ -149,13 +157,6 @@ module _ {tlvs : ℕ} {b : List ℕ} {o : ℕ} where
         let a = after-from (cut (standing least declared) b k p) p in
         is (cut-inside least declared b k p h)
         (laid-append (widen (omega arith) (omega arith) (laid-fields fields t in-front)) (laid-listing-if i o p f (standing least declared) b k (λ s e. g) (omega arith) (omega arith) items))
-
-  raw-below : (n : ℕ) {c : List ℕ} {x x′ : Body} → (n ≤ length b → BodyLaid tlvs b o c x x′) → BodyLaid tlvs b o c (cond (ltb (length b) n) raw x) (cond (ltb (length b) n) raw x′)
-  raw-below n {c} {x} {x′} h = go (ltb (length b) n) refl
-    where
-      go : (t : Bool) → ltb (length b) n ≡ t → BodyLaid tlvs b o c (cond t raw x) (cond t raw x′)
-      go true e = is-raw
-      go false e = h (ltb-false (length b) n e)
 
 -- The bodies of version 2, at the places o and q.
 module _ (b : List ℕ) (o q : ℕ) where
@@ -228,7 +229,9 @@ module _ (b : List ℕ) (o q : ℕ) where
       fields : ℕ → ℕ → List Entry
       fields p n = metric24At 17 b p 1 ∷ u8At 18 b p 4 ∷ u8At 19 b p 5 ∷ ip6At 20 b p 8 n ∷ []
 
-      go : (x : Option ℕ) → v3.prefixFits b (getD b 4 0) 8 ≡ x → BodyLaid 32 b o c (elim x [ nothing ↦ raw | some n ↦ decoded (fields o n) (8 + n) ]) (elim x [ nothing ↦ raw | some n ↦ decoded (fields q n) (8 + n) ])
+      go : (x : Option ℕ) → v3.prefixFits b (getD b 4 0) 8 ≡ x → BodyLaid 32 b o c
+          (elim x [ nothing ↦ raw | some n ↦ decoded (fields o n) (8 + n) ])
+          (elim x [ nothing ↦ raw | some n ↦ decoded (fields q n) (8 + n) ])
       go nothing e = is-raw
       go (some n) e = is (prefix-fits b (getD b 4 0) 8 n e) (laid-fields (fields o n) refl (omega arith))
 
@@ -304,26 +307,26 @@ unfolding bodyEntries bodyTail leftover
 body-ends {b = b} {o = o} {c = c} w r u h k (is {es = es} {n = n} i l) = go (ltb n (length b)) refl
   where
     go : (t : Bool) → ltb n (length b) ≡ t → Ending c w u o (o + length b) (es ++ cond t (bytes u (o + n) (o + length b) ∷ []) []) (length b - n)
-    go true e = let a = ltb-true n (length b) e in leaves es (o + n) refl l (omega arith) (omega arith) (omega arith)
-    go false e = let a = ltb-false n (length b) e in no-range (rw append-nil (widen (omega arith) (omega arith) l)) (omega arith)
-body-ends {tlvs} {b} {o} {c} w r u h k (is-tlvs {es = es} s f t l) = rw (le-ltb (length b) (length b) (omega arith), append-nil) (takes es tlvs s h refl l f t (omega arith))
+    go true e = let a = ltb-true n (length b) e in unparsed-left es (o + n) refl l (omega arith) (omega arith) (omega arith)
+    go false e = let a = ltb-false n (length b) e in nothing-left (rw append-nil (widen (omega arith) (omega arith) l)) (omega arith)
+body-ends {tlvs} {b} {o} {c} w r u h k (is-tlvs {es = es} s f t l) = rw (le-ltb (length b) (length b) (omega arith), append-nil) (raw-or-tlvs es tlvs s h refl l f t (omega arith))
 body-ends {b = b} {o = o} {c = c} w r u h k is-raw = go (ltb 0 (length b))
   where
     go : (t : Bool) → Ending c w u o (o + length b) (cond t (bytes r (o + 0) (o + length b) ∷ []) []) 0
-    go true = takes [] r (o + 0) k refl none (omega arith) (omega arith) refl
-    go false = no-range none refl
+    go true = raw-or-tlvs [] r (o + 0) k refl none (omega arith) (omega arith) refl
+    go false = nothing-left none refl
 
 -- The same after entries that lie before it and have no kind 8 entry.
 after-front : {c w : List ℕ} {u lo mid hi tail : ℕ} {front es : List Entry} → Laid (only c []) lo mid front → lo ≤ mid → mid ≤ hi
     → Ending c w u mid hi es tail → Ending c w u lo hi (front ++ es) tail
-after-front l a b (no-range m t) = no-range (laid-append (widen (omega arith) b l) (widen a (omega arith) m)) t
-after-front {front = front} l a b (leaves es s e m f g t) =
-    leaves (front ++ es) s (ap (λ (x : List Entry). front ++ x) e ∙ sym (append-assoc front es _)) (laid-append (widen (omega arith) f l) (widen a (omega arith) m)) (omega arith) g t
-after-front {front = front} l a b (takes es i s k e m f g t) =
-    takes (front ++ es) i s k (ap (λ (x : List Entry). front ++ x) e ∙ sym (append-assoc front es _)) (laid-append (widen (omega arith) f l) (widen a (omega arith) m)) (omega arith) g t
+after-front l a b (nothing-left m t) = nothing-left (laid-append (widen (omega arith) b l) (widen a (omega arith) m)) t
+after-front {front = front} l a b (unparsed-left es s e m f g t) =
+    unparsed-left (front ++ es) s (ap (λ (x : List Entry). front ++ x) e ∙ sym (append-assoc front es _)) (laid-append (widen (omega arith) f l) (widen a (omega arith) m)) (omega arith) g t
+after-front {front = front} l a b (raw-or-tlvs es i s k e m f g t) =
+    raw-or-tlvs (front ++ es) i s k (ap (λ (x : List Entry). front ++ x) e ∙ sym (append-assoc front es _)) (laid-append (widen (omega arith) f l) (widen a (omega arith) m)) (omega arith) g t
 
 -- How the entries of any LSA end, whatever its length; and what they are laid out in.
-pub lsa-ends : (v : ℕ) (d : List ℕ) (o : ℕ) → Ending (containers v d) (taken v) (unparsed v) o (o + 20 + length (drop 20 d)) (lsaEntries v d o) (lsaTail v d)
+pub lsa-ends : (v : ℕ) (d : List ℕ) (o : ℕ) → Ending (containers v d) (rawOrTlvs v) (unparsed v) o (o + 20 + length (drop 20 d)) (lsaEntries v d o) (lsaTail v d)
 unfolding v2.lsaEntries2 v2.lsaTail2 v3.lsaEntries3 v3.lsaTail3
 lsa-ends v d o = go (eqb v 2)
   where
@@ -347,9 +350,9 @@ ending-laid {c} {w} {u} {lo} {hi} {tail} {es} e = go e
     fewer h l = weaken (only-more c c [] (u ∷ w) (λ i k. k) (λ i k. let z : _≡_ {A = ℕ} 0 1 = cc in absurd (omega arith))) (widen (omega arith) h l)
 
     go : Ending c w u lo hi es tail → Laid (only c (u ∷ w)) lo hi es
-    go (no-range l t) = fewer (omega arith) l
-    go (leaves front s e l f g t) = rw e (laid-append (fewer (omega arith) l) (laid-fields (bytes u s hi ∷ []) (rw (eq-eqb u u refl)) (omega arith)))
-    go (takes front i s k e l f g t) = rw e (laid-append (fewer g l) (laid-fields (bytes i s hi ∷ []) (rw (or-else (eqb i u) k)) (omega arith)))
+    go (nothing-left l t) = fewer (omega arith) l
+    go (unparsed-left front s e l f g t) = rw e (laid-append (fewer (omega arith) l) (laid-fields (bytes u s hi ∷ []) (rw (eq-eqb u u refl)) (omega arith)))
+    go (raw-or-tlvs front i s k e l f g t) = rw e (laid-append (fewer g l) (laid-fields (bytes i s hi ∷ []) (rw (or-else (eqb i u) k)) (omega arith)))
 
 -- The entries of any LSA, to the end of its header at least; and of one that has its header.
 pub laid-any : (v : ℕ) (d : List ℕ) (o : ℕ) → Laid (holds v d) o (o + 20 + length (drop 20 d)) (lsaEntries v d o)

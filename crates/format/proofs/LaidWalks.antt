@@ -18,8 +18,8 @@ use Rattle.format.specs.Cut.{Span, Rule, cut, after, standing, fixedRule
 use Rattle.format.specs.Body.{whole}
 use Rattle.format.specs.Walks.{headerObject, lsaObject, lsaEntries, lsaTail, outer, unparsedId, headers, lsas}
 use Rattle.format.specs.Laid.{Laid, among, anything, Ending}
-use Rattle.format.specs.Laid.Ending.{no-range, leaves, takes}
-use Rattle.format.specs.Lists.{containers, taken, unparsed, holds}
+use Rattle.format.specs.Laid.Ending.{nothing-left, unparsed-left, raw-or-tlvs}
+use Rattle.format.specs.Lists.{containers, rawOrTlvs, unparsed, holds}
 use Rattle.format.proofs.Unique.{span}
 use Rattle.format.proofs.Rules.{inside}
 use Rattle.format.proofs.Laid.{after-from, cut-inside, widen, weaken, laid-append, laid-container, laid-cond, laid-listing, laid-leftover, laid-member}
@@ -62,25 +62,25 @@ laid-update v d count o h = laid-outer v (lsaObject v d o) d o 20 _ count 4 h ob
         (widen (omega arith) (omega arith) (weaken (λ x h. refl) (laid-lsa v (part d q n) (o + q) (omega (arith, i .enough)))))
 
 -- How the entries of an LSA end, in its own data.
-pub lsa-ending : (v : ℕ) (d : List ℕ) (o : ℕ) → 20 ≤ length d → Ending (containers v d) (taken v) (unparsed v) o (o + length d) (lsaEntries v d o) (lsaTail v d)
+pub lsa-ending : (v : ℕ) (d : List ℕ) (o : ℕ) → 20 ≤ length d → Ending (containers v d) (rawOrTlvs v) (unparsed v) o (o + length d) (lsaEntries v d o) (lsaTail v d)
 lsa-ending v d o h =
     let l = length-drop 20 d in
     let q : o + 20 + length (drop 20 d) ≡ o + length d = omega arith in
     rw (← q) (lsa-ends v d o)
 
 -- So a raw body (23, 31) or a tlvs range (24, 32) in the strip goes with no tail.
-pub taken-no-tail : (v : ℕ) {c : List ℕ} {lo hi : ℕ} {es : List Entry} {t : ℕ} → Ending c (taken v) (unparsed v) lo hi es t
-    → (i s e : ℕ) → among (taken v) i ≡ true → List·Memᴰ (bytes i s e) es → t ≡ 0
-taken-no-tail v {c} {lo} {hi} {es} {t} ending i s e k m = go ending
+pub raw-or-tlvs-no-tail : (v : ℕ) {c : List ℕ} {lo hi : ℕ} {es : List Entry} {t : ℕ} → Ending c (rawOrTlvs v) (unparsed v) lo hi es t
+    → (i s e : ℕ) → among (rawOrTlvs v) i ≡ true → List·Memᴰ (bytes i s e) es → t ≡ 0
+raw-or-tlvs-no-tail v {c} {lo} {hi} {es} {t} ending i s e k m = go ending
   where
     apart : (x : Bool) → among (cond x (23 ∷ 24 ∷ []) (31 ∷ 32 ∷ [])) (cond x 25 33) ≡ false
     apart true = refl
     apart false = refl
 
-    go : Ending c (taken v) (unparsed v) lo hi es t → t ≡ 0
-    go (no-range l z) = z
-    go (takes front j p q f l a b z) = z
-    go (leaves front p f l a b z) = ⊎-elim {C = t ≡ 0}
+    go : Ending c (rawOrTlvs v) (unparsed v) lo hi es t → t ≡ 0
+    go (nothing-left l z) = z
+    go (raw-or-tlvs front j p q f l a b z) = z
+    go (unparsed-left front p f l a b z) = ⊎-elim {C = t ≡ 0}
         (λ n. let y : _≡_ {A = ℕ} 0 1 = cc (laid-member (bytes i s e) (λ w. let y : _≡_ {A = ℕ} 0 1 = cc in omega arith) l n .passes) in absurd (omega arith))
         (λ n. let w : i ≡ unparsed v = cc (List·Memᴰ·eq-of-singleton n) in let y : _≡_ {A = ℕ} 0 1 = cc (rw w at k, apart (eqb v 2)) in absurd (omega arith))
         (List·Memᴰ·append-cases front (rw f at m))

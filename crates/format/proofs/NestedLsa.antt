@@ -7,7 +7,7 @@ use lib.Dec.{ltb, eqb}
 use Rattle.format.specs.Cut.{Span}
 use Rattle.format.specs.Header.{headerEntries2, headerEntries3}
 use Rattle.format.specs.Walks.{lsaEntries, headerEntries}
-use Rattle.format.specs.Lists.{containers, unparsed, taken}
+use Rattle.format.specs.Lists.{containers, unparsed, rawOrTlvs}
 use Rattle.format.proofs.Nested.{Nested, nested-cond}
 use Rattle.format.proofs.Laid.{all, all-among, all-cond, cond-same, laid-nested}
 pub use Rattle.format.proofs.LaidLsa.{linkInside, prefixInside}
@@ -37,7 +37,7 @@ containers-below v d = simp (all-cond, cond-same)
 
 -- The entries of an LSA of either version.
 pub nested-lsa : (v : ℕ) (d : List ℕ) (o : ℕ) → Nested below (lsaEntries v d o)
-nested-lsa v d o = laid-nested (containers v d) (unparsed v ∷ taken v) (λ i. all-among below (containers v d) i (containers-below v d)) (laid-any v d o)
+nested-lsa v d o = laid-nested (containers v d) (unparsed v ∷ rawOrTlvs v) (λ i. all-among below (containers v d) i (containers-below v d)) (laid-any v d o)
 
 -- The entries of a header of either version.
 pub nested-header : (v : ℕ) (d : List ℕ) (o : ℕ) → Nested below (headerEntries v d o)

@@ -64,15 +64,16 @@ only c r (ip4 i s e a) = true
 only c r (ip6 i s e h l) = true
 only c r (bytes i s e) = among r i
 
+-- A test that every entry passes.
+abbrev pub anything : Entry → Bool
+anything x = true
+
 -- How the entries of an LSA end, and what its tail is. At most one entry is of kind 8: the last one, to the end of the
 -- range, which all others lie before. Where it is the unparsed bytes, the tail is its length; a raw body or a tlvs range,
 -- which have the ids r, is no tail. The containers have the ids c.
 pub data Ending (c r : List ℕ) (unparsed lo hi : ℕ) (es : List Entry) (tail : ℕ) : Type 0 where
-  no-range : Laid (only c []) lo hi es → tail ≡ 0 → Ending c r unparsed lo hi es tail
-  leaves : (front : List Entry) (s : ℕ) → es ≡ front ++ (bytes unparsed s hi ∷ []) → Laid (only c []) lo s front
+  nothing-left : Laid (only c []) lo hi es → tail ≡ 0 → Ending c r unparsed lo hi es tail
+  unparsed-left : (front : List Entry) (s : ℕ) → es ≡ front ++ (bytes unparsed s hi ∷ []) → Laid (only c []) lo s front
       → lo ≤ s → s < hi → tail ≡ hi - s → Ending c r unparsed lo hi es tail
-  takes : (front : List Entry) (i s : ℕ) → among r i ≡ true → es ≡ front ++ (bytes i s hi ∷ []) → Laid (only c []) lo s front
+  raw-or-tlvs : (front : List Entry) (i s : ℕ) → among r i ≡ true → es ≡ front ++ (bytes i s hi ∷ []) → Laid (only c []) lo s front
       → lo ≤ s → s ≤ hi → tail ≡ 0 → Ending c r unparsed lo hi es tail
-
-abbrev pub anything : Entry → Bool
-anything x = true

@@ -42,15 +42,15 @@ abbrev pub containers : (version : ℕ) → List ℕ → List ℕ
 containers v d = cond (eqb v 2) (containers2 (getD d 3 0) (length (drop 20 d))) (containers3 (be16At d 2 % 8192) (length (drop 20 d)))
 
 -- A raw body and a tlvs range; unparsed bytes.
-abbrev pub taken : (version : ℕ) → List ℕ
-taken v = cond (eqb v 2) (23 ∷ 24 ∷ []) (31 ∷ 32 ∷ [])
+abbrev pub rawOrTlvs : (version : ℕ) → List ℕ
+rawOrTlvs v = cond (eqb v 2) (23 ∷ 24 ∷ []) (31 ∷ 32 ∷ [])
 
 abbrev pub unparsed : (version : ℕ) → ℕ
 unparsed v = cond (eqb v 2) 25 33
 
 -- The entries in an LSA: its containers, the three kind 8 entries, and fields with a value.
 abbrev pub holds : (version : ℕ) → List ℕ → Entry → Bool
-holds v d = only (containers v d) (unparsed v ∷ taken v)
+holds v d = only (containers v d) (unparsed v ∷ rawOrTlvs v)
 
 -- The ranges of the spans of a list in a body that begins at the place o, where the body has the bytes before the list's
 -- first place; else it has no list.

@@ -12,7 +12,7 @@ use Rattle.format.specs.Strip.Entry.{bytes}
 use Rattle.format.specs.Cut.{Span}
 use Rattle.format.specs.Ranges.{Range, range, ranges, placed}
 use Rattle.format.specs.Laid.{Laid, anything, Ending}
-use Rattle.format.specs.Lists.{containers, taken, unparsed, holds, linkRanges, prefixRanges}
+use Rattle.format.specs.Lists.{containers, rawOrTlvs, unparsed, holds, linkRanges, prefixRanges}
 use Rattle.format.specs.CutInto.{CutInto, FixedAt, RecordAt, LinkAt, PrefixAt}
 use Rattle.format.specs.Header.{headerEntries2, headerEntries3}
 use Rattle.format.specs.V2.{lsaEntries2}
@@ -84,7 +84,7 @@ pub record OneShows (v : ℕ) (d : List ℕ) (o : ℕ) (strip : List ℕ) (recor
   pub links : ranges 96 entries ≡ linkRanges v d o
   pub prefixes : v ≡ 3 → ranges 97 entries ≡ prefixRanges d o
   pub lists : LsaShows v d o entries tail
-  pub ending : Ending (containers v d) (taken v) (unparsed v) o (o + length d) entries tail
+  pub ending : Ending (containers v d) (rawOrTlvs v) (unparsed v) o (o + length d) entries tail
   pub counted : records ≡ 1
   pub longer : 0 < length strip
 
