@@ -10,6 +10,11 @@ pub mod Bounds
 pub mod FixedLoop
 pub mod Prefix
 pub mod Newness
+pub mod Text
+pub mod Fields
+pub mod Layouts2
+pub mod Layouts3
+pub mod Listings
 pub mod Examples
 pub mod Nested
 pub mod NestedLsa
