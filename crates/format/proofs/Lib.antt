@@ -1,5 +1,6 @@
 -- The theorems about the definitions.
 pub mod Bytes
+pub mod Strip
 pub mod Wrote
 pub mod Read
 pub mod Unique
@@ -24,3 +25,4 @@ pub mod Refusals
 pub mod Within
 pub mod Part
 pub mod Program
+pub mod Input
