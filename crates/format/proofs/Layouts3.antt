@@ -1,6 +1,7 @@
 -- One LSA of version 3 of each layout, whole, at the place 1,000: its bytes, and the entries that the reference pushes for them
 -- (host/oracle/tests/proved.rs compares them). Each byte is one more than its place in the LSA, but for counts, flags, types and
--- lengths: so a value names the bytes that it is read from.
+-- lengths: so a value names the bytes that it is read from. The length that they declare is not their own: a single LSA is all the data
+-- given.
 use Prim.Native.Nat.{ℕ}
 use mathlib.Core.Path.{_≡_, refl}
 use mathlib.Core.List.{List, [], _∷_, flatMap}
@@ -75,7 +76,7 @@ pub record Layouts3 : Type 0 where
       bytes 33 1056 1061 ∷
       [])) 1 5
   -- The same by the low 13 bits of the LS type, whatever the three above them. An empty array of links is opened.
-  pub router-unknown : lsaOf 3 (lsa 0xa0 0x01 (
+  pub router-u-bit : lsaOf 3 (lsa 0xa0 0x01 (
       0x15 ∷ 0x16 ∷ 0x17 ∷ 0x18 ∷
       0x19 ∷ 0x1a ∷
       [])) 1000
@@ -398,7 +399,7 @@ unfolding lsaOf unless v3.lsaEntries3 v3.lsaTail3 headerEntries3 bodyEntries bod
     v3.body3 v3.link v3.routerLsa3 v3.networkLsa3 v3.prefixFits v3.interAreaPrefixLsa v3.interAreaRouterLsa v3.externalLsa3 v3.prefix v3.linkLsa v3.intraAreaPrefixLsa v3.tlvLsa flatMap
 layouts3 = record {
   router = refl;
-  router-unknown = refl;
+  router-u-bit = refl;
   network = refl;
   inter-area-prefix = refl;
   inter-area-router = refl;
