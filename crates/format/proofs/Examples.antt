@@ -1,9 +1,9 @@
--- The worked examples of the requirements, P1 to P12, as one table that is computed.
+-- The worked examples, as one table that is computed: P1 to P12 of the requirements, an LSA of each layout, and whole listings.
 use Prim.Native.Nat.{ℕ, _-_}
 use mathlib.Core.Path.{_≡_, refl}
 use mathlib.Core.List.{List, [], _∷_, _++_, map, flatMap}
 use mathlib.Core.Option.{Option, none, some}
-use lib.ListN.{length, replicate}
+use lib.ListN.{replicate}
 use Rattle.format.specs.Strip.{code, encode, container}
 use Rattle.format.specs.Strip.Entry.{bytes}
 use Rattle.format.specs.Prefix.{octets, address}
@@ -15,6 +15,9 @@ use Rattle.format.specs.V2.{link, linkTos, routerLsa2, body2, lsaEntries
 use Rattle.format.specs.V3.{prefixFits, externalLsa3, tlvLsa, body3, lsaEntries3, lsaTail3, routerFlags, options}
 use Rattle.format.specs.Walks.{answer, answerOf, unless, headersOf, updateOf, lsaOf, outer, headerObject, lsaObject, lsaEntries, headerEntries}
 use Rattle.format.specs.Ranges.{range, ranges}
+use Rattle.format.proofs.Layouts2.{Layouts2, layouts2}
+use Rattle.format.proofs.Layouts3.{Layouts3, layouts3}
+use Rattle.format.proofs.Listings.{Listings, listings}
 
 abbrev zeros : ℕ → List ℕ
 zeros n = replicate n 0
@@ -73,6 +76,11 @@ pub record Examples : Type 0 where
   pub p11-decoded : body3 33 (zeros 4) 20 ≡ decoded (routerFlags (zeros 4) 20 ++ (options (zeros 4) 20 ∷ bytes 32 24 24 ∷ [])) 4
   -- a version 2 Router-LSA with an empty body
   pub p12 : lsaEntries 2 (typed 1) 0 ≡ headerEntries 2 (typed 1) 0
+  -- an LSA of each layout, with all its entries
+  pub version-2 : Layouts2
+  pub version-3 : Layouts3
+  -- what the program prints, and walks at an offset
+  pub printing : Listings
 
 pub examples : Examples
 unfolding octets headersOf updateOf lsaOf unless answerOf outer headerObject lsaObject listing listingIfAny whole cut after standing leftover container code encode
@@ -95,4 +103,7 @@ examples = record {
   p11-raw = refl;
   p11-decoded = refl;
   p12 = refl;
+  version-2 = layouts2;
+  version-3 = layouts3;
+  printing = listings;
 }

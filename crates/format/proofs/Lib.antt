@@ -1,5 +1,6 @@
 -- The theorems about the definitions.
 pub mod Bytes
+pub mod Strip
 pub mod Wrote
 pub mod Read
 pub mod Unique
@@ -14,6 +15,11 @@ pub mod Bounds
 pub mod Sizes
 pub mod Newness
 pub mod Newer
+pub mod Text
+pub mod Fields
+pub mod Layouts2
+pub mod Layouts3
+pub mod Listings
 pub mod Examples
 pub mod Laid
 pub mod LaidLsa
@@ -28,3 +34,4 @@ pub mod LaidWalks
 pub mod ListRanges
 pub mod Part
 pub mod Program
+pub mod Input

@@ -1,13 +1,13 @@
 -- Prefixes: their octets and addresses are of the right length, and comparison decides equality.
-use Prim.Native.Nat.{ℕ, _+_, _*_, _/_, _≤_, _<_}
+use Prim.Native.Nat.{ℕ, _+_, _*_, _/_, _-_, _≤_, _<_}
 use native.Mathlib.Omega.{arith}
 use mathlib.Core.Path.{_≡_, refl}
 use mathlib.Core.Logic.{_⊎_, inl, inr}
 use mathlib.Core.Bool.{Bool, true, false, cond}
-use mathlib.Core.List.{List, [], _∷_, _++_}
+use mathlib.Core.List.{List, [], _∷_, _++_, append-assoc}
 use mathlib.Core.Option.{Option, none, some}
-use lib.ListN.{length, replicate, length-append, length-replicate}
-use lib.Seq.{length-take-le}
+use lib.ListN.{length, take, replicate, length-append, length-replicate, replicate-append-replicate}
+use lib.Seq.{length-take-le, take-append-le, take-at}
 use lib.Dec.{leb, ltb, eqb}
 use borrow.Author.Tests.{leb-true, ltb-true, ltb-false, lt-ltb, le-ltb, eqb-true, eqb-false, eq-eqb}
 use Rattle.format.specs.Prefix.{octets, address, sameBytes, Comparison, comparison}
@@ -43,6 +43,20 @@ fits-inside b l p n e = go (octets l) refl e
 pub length-address : (bs : List ℕ) → length (address bs) ≡ 16
 unfolding address
 length-address bs = length-take-le 16 (bs ++ replicate 16 0) (rw (length-append, length-replicate {A = ℕ} 16 0) (omega arith))
+
+-- The octets come first, and then zeros to 16; more than 16 octets are cut.
+pub address-is : (bs : List ℕ) → length bs ≤ 16 → address bs ≡ bs ++ replicate (16 - length bs) 0
+unfolding address
+address-is bs h =
+    let n = 16 - length bs in
+    let sum : n + length bs ≡ 16 = omega arith in
+    let zeros : replicate {A = ℕ} 16 0 ≡ replicate n 0 ++ replicate (length bs) 0 = rw (replicate-append-replicate, sum) in
+    let fits : length (bs ++ replicate n 0) ≡ 16 = rw (length-append, length-replicate) (omega arith) in
+    rw (zeros, ← append-assoc) (take-at (bs ++ replicate n 0) (replicate (length bs) 0) 16 fits)
+
+pub address-cut : (bs : List ℕ) → 16 ≤ length bs → address bs ≡ take 16 bs
+unfolding address
+address-cut bs h = take-append-le 16 bs (replicate 16 0) h
 
 pub same-bytes : (xs ys : List ℕ) → sameBytes xs ys ≡ true → xs ≡ ys
 unfolding sameBytes

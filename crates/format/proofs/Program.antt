@@ -1,20 +1,17 @@
--- The program: when it refuses, and the worked listing of the requirements.
+-- The program: when it refuses.
 use Prim.Native.Nat.{ℕ, _≤_}
 use native.Mathlib.Omega.{arith}
 use mathlib.Core.Path.{_≡_, refl}
 use mathlib.Core.Logic.{inl, inr, ⊎-elim}
 use mathlib.Core.Bool.{Bool, true, false, cond}
-use mathlib.Core.List.{List, [], _∷_, _++_, flatMap}
+use mathlib.Core.List.{List}
 use lib.ListN.{length, getD, drop, length-drop}
 use lib.Dec.{eqb, ltb}
 use borrow.Author.Tests.{le-ltb, ltb-true, ltb-false}
-use Rattle.format.specs.Strip.{Entry, code, encode, container}
-use Rattle.format.specs.Cut.{cut, standing, after}
-use Rattle.format.specs.Header.{headerEntries2}
-use Rattle.format.specs.Body.{listing, leftover, whole}
-use Rattle.format.specs.Walks.{answerOf, unless, refusal, isKnown, maxData, maxOffset, headersOf, updateOf, lsaOf, walkOf, outer, headerObject}
+use Rattle.format.specs.Strip.{Entry, encode}
+use Rattle.format.specs.Walks.{answerOf, unless, refusal, isKnown, maxData, maxOffset, headersOf, updateOf, lsaOf, walkOf}
 use Rattle.format.specs.Walks.Outcome.{refused, accepted}
-use Rattle.format.specs.Print.{maxInput, stripRoom, countOf, namedWalk, programOf, digits, hex, line, firstLine, printed, ProgramRefusals}
+use Rattle.format.specs.Print.{maxInput, stripRoom, countOf, namedWalk, programOf, ProgramRefusals}
 use Rattle.format.proofs.Refusals.{number-is}
 
 -- A walk over no more data than it may have does not answer 2, and no walk answers more than 5.
@@ -87,42 +84,3 @@ program-refusals input = first (ltb maxInput (length input)) refl
           walks = λ a b c. absurd (a h);
         }
     first false e = second (ltb (length input) 2) refl (ltb-false maxInput (length input) e)
-
--- One header of version 2 and a byte more.
-abbrev input : List ℕ
-input = 2 ∷ 0 ∷ 0 ∷ 1 ∷ 2 ∷ 1 ∷ 10 ∷ 0 ∷ 0 ∷ 1 ∷ 10 ∷ 0 ∷ 0 ∷ 1 ∷ 128 ∷ 0 ∷ 0 ∷ 1 ∷ 18 ∷ 52 ∷ 0 ∷ 24 ∷ 255 ∷ []
-
-abbrev text : List ℕ
-text =
-    -- ok 1 1 132
-    (111 ∷ 107 ∷ 32 ∷ 49 ∷ 32 ∷ 49 ∷ 32 ∷ 49 ∷ 51 ∷ 50 ∷ 10 ∷ []) ++
-    -- open 114 0 20
-    (111 ∷ 112 ∷ 101 ∷ 110 ∷ 32 ∷ 49 ∷ 49 ∷ 52 ∷ 32 ∷ 48 ∷ 32 ∷ 50 ∷ 48 ∷ 10 ∷ []) ++
-    -- open 112 0 20
-    (111 ∷ 112 ∷ 101 ∷ 110 ∷ 32 ∷ 49 ∷ 49 ∷ 50 ∷ 32 ∷ 48 ∷ 32 ∷ 50 ∷ 48 ∷ 10 ∷ []) ++
-    -- u16 0 0 2 1
-    (117 ∷ 49 ∷ 54 ∷ 32 ∷ 48 ∷ 32 ∷ 48 ∷ 32 ∷ 50 ∷ 32 ∷ 49 ∷ 10 ∷ []) ++
-    -- u8 1 2 3 2
-    (117 ∷ 56 ∷ 32 ∷ 49 ∷ 32 ∷ 50 ∷ 32 ∷ 51 ∷ 32 ∷ 50 ∷ 10 ∷ []) ++
-    -- u8 2 3 4 1
-    (117 ∷ 56 ∷ 32 ∷ 50 ∷ 32 ∷ 51 ∷ 32 ∷ 52 ∷ 32 ∷ 49 ∷ 10 ∷ []) ++
-    -- ip4 3 4 8 10.0.0.1
-    (105 ∷ 112 ∷ 52 ∷ 32 ∷ 51 ∷ 32 ∷ 52 ∷ 32 ∷ 56 ∷ 32 ∷ 49 ∷ 48 ∷ 46 ∷ 48 ∷ 46 ∷ 48 ∷ 46 ∷ 49 ∷ 10 ∷ []) ++
-    -- ip4 4 8 12 10.0.0.1
-    (105 ∷ 112 ∷ 52 ∷ 32 ∷ 52 ∷ 32 ∷ 56 ∷ 32 ∷ 49 ∷ 50 ∷ 32 ∷ 49 ∷ 48 ∷ 46 ∷ 48 ∷ 46 ∷ 48 ∷ 46 ∷ 49 ∷ 10 ∷ []) ++
-    -- u32 5 12 16 2147483649
-    (117 ∷ 51 ∷ 50 ∷ 32 ∷ 53 ∷ 32 ∷ 49 ∷ 50 ∷ 32 ∷ 49 ∷ 54 ∷ 32 ∷ 50 ∷ 49 ∷ 52 ∷ 55 ∷ 52 ∷ 56 ∷ 51 ∷ 54 ∷ 52 ∷ 57 ∷ 10 ∷ []) ++
-    -- u16 6 16 18 4660
-    (117 ∷ 49 ∷ 54 ∷ 32 ∷ 54 ∷ 32 ∷ 49 ∷ 54 ∷ 32 ∷ 49 ∷ 56 ∷ 32 ∷ 52 ∷ 54 ∷ 54 ∷ 48 ∷ 10 ∷ []) ++
-    -- u16 7 18 20 24
-    (117 ∷ 49 ∷ 54 ∷ 32 ∷ 55 ∷ 32 ∷ 49 ∷ 56 ∷ 32 ∷ 50 ∷ 48 ∷ 32 ∷ 50 ∷ 52 ∷ 10 ∷ []) ++
-    -- close
-    (99 ∷ 108 ∷ 111 ∷ 115 ∷ 101 ∷ 10 ∷ []) ++
-    -- close
-    (99 ∷ 108 ∷ 111 ∷ 115 ∷ 101 ∷ 10 ∷ []) ++
-    -- bytes 25 20 21
-    98 ∷ 121 ∷ 116 ∷ 101 ∷ 115 ∷ 32 ∷ 50 ∷ 53 ∷ 32 ∷ 50 ∷ 48 ∷ 32 ∷ 50 ∷ 49 ∷ 10 ∷ []
-
-pub worked-listing : printed input ≡ text
-unfolding printed firstLine line digits hex programOf walkOf headersOf answerOf unless outer listing leftover headerObject container encode code flatMap whole cut standing headerEntries2 after
-worked-listing = refl

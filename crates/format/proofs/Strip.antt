@@ -1,0 +1,95 @@
+-- The strip's table, in bytes: the kinds 1 to 8, and what stands in the body of each, for all ids, places and values.
+use Prim.Native.Nat.{ℕ, _+_, _/_, _%_, _<_}
+use native.Mathlib.Omega.{arith}
+use mathlib.Core.Path.{_≡_, refl}
+use mathlib.Core.List.{List, [], _∷_, _++_, map}
+use mathlib.Core.Option.{none, some}
+use lib.ListN.{length}
+use borrow.Author.Tests.{ne-eqb}
+use Rattle.format.specs.Bytes.{be32, be64}
+use Rattle.format.specs.Strip.{Entry, code, bodyLength}
+use Rattle.format.specs.Strip.Entry.{opens, closes, u8, u16, u32, ip4, ip6, bytes}
+
+-- The bytes of a number of 32 or 64 bits, each by its weight.
+abbrev pub four : ℕ → List ℕ
+four n = n / 16777216 ∷ n / 65536 % 256 ∷ n / 256 % 256 ∷ n % 256 ∷ []
+
+abbrev pub eight : ℕ → List ℕ
+eight n =
+    n / 72057594037927936 ∷
+    n / 281474976710656 % 256 ∷
+    n / 1099511627776 % 256 ∷
+    n / 4294967296 % 256 ∷
+    n / 16777216 % 256 ∷
+    n / 65536 % 256 ∷
+    n / 256 % 256 ∷
+    n % 256 ∷
+    []
+
+pub be32-is : (n : ℕ) → be32 n ≡ four n
+be32-is n =
+    let a : n / 65536 / 256 ≡ n / 16777216 = omega arith in
+    let b : n % 65536 / 256 ≡ n / 256 % 256 = omega arith in
+    let c : n % 65536 % 256 ≡ n % 256 = omega arith in
+    cc
+
+pub be64-is : (n : ℕ) → be64 n ≡ eight n
+be64-is n =
+    let a : n / 4294967296 / 65536 / 256 ≡ n / 72057594037927936 = omega arith in
+    let b : n / 4294967296 / 65536 % 256 ≡ n / 281474976710656 % 256 = omega arith in
+    let c : n / 4294967296 % 65536 / 256 ≡ n / 1099511627776 % 256 = omega arith in
+    let d : n / 4294967296 % 65536 % 256 ≡ n / 4294967296 % 256 = omega arith in
+    let e : n % 4294967296 / 65536 / 256 ≡ n / 16777216 % 256 = omega arith in
+    let f : n % 4294967296 / 65536 % 256 ≡ n / 65536 % 256 = omega arith in
+    let g : n % 4294967296 % 65536 / 256 ≡ n / 256 % 256 = omega arith in
+    let h : n % 4294967296 % 65536 % 256 ≡ n % 256 = omega arith in
+    cc
+
+-- The bytes of an entry of each kind with the id i, the start s and the end e.
+pub record Kinds (i s e : ℕ) : Type 0 where
+  pub open-entry : code (opens i s e) ≡ 1 ∷ i ∷ (four s ++ four e)
+  pub close-entry : code closes ≡ 2 ∷ []
+  pub u8-field : (v : ℕ) → code (u8 i s e v) ≡ 3 ∷ i ∷ (four s ++ (four e ++ (v ∷ [])))
+  pub u16-field : (v : ℕ) → code (u16 i s e v) ≡ 4 ∷ i ∷ (four s ++ (four e ++ (v / 256 ∷ v % 256 ∷ [])))
+  pub u32-field : (v : ℕ) → code (u32 i s e v) ≡ 5 ∷ i ∷ (four s ++ (four e ++ four v))
+  pub ip4-field : (a : ℕ) → code (ip4 i s e a) ≡ 6 ∷ i ∷ (four s ++ (four e ++ four a))
+  pub ip6-field : (h l : ℕ) → code (ip6 i s e h l) ≡ 7 ∷ i ∷ (four s ++ (four e ++ (eight h ++ eight l)))
+  pub bytes-entry : code (bytes i s e) ≡ 8 ∷ i ∷ (four s ++ four e)
+  -- the kind's byte, and as many of its body as the table says
+  pub lengths : (v h l : ℕ)
+      → map (λ (x : Entry). length (code x)) (opens i s e ∷ closes ∷ u8 i s e v ∷ u16 i s e v ∷ u32 i s e v ∷ ip4 i s e v ∷ ip6 i s e h l ∷ bytes i s e ∷ [])
+      ≡ (1 + 9) ∷ (1 + 0) ∷ (1 + 10) ∷ (1 + 11) ∷ (1 + 13) ∷ (1 + 13) ∷ (1 + 25) ∷ (1 + 9) ∷ []
+
+pub kinds : (i s e : ℕ) → Kinds i s e
+unfolding code
+kinds i s e =
+    let p = be32-is s in
+    let q = be32-is e in record {
+      open-entry = cc;
+      close-entry = refl;
+      u8-field = λ v. cc;
+      u16-field = λ v. cc;
+      u32-field = λ v. let r = be32-is v in cc;
+      ip4-field = λ a. let r = be32-is a in cc;
+      ip6-field = λ h l. let r = be64-is h in let t = be64-is l in cc;
+      bytes-entry = cc;
+      lengths = λ v h l. refl;
+    }
+
+-- The lengths by which the reader steps, for the bytes 0 to 8; above them is no kind.
+pub body-lengths : map bodyLength (0 ∷ 1 ∷ 2 ∷ 3 ∷ 4 ∷ 5 ∷ 6 ∷ 7 ∷ 8 ∷ [])
+    ≡ none ∷ some 9 ∷ some 0 ∷ some 10 ∷ some 11 ∷ some 13 ∷ some 13 ∷ some 25 ∷ some 9 ∷ []
+body-lengths = refl
+
+pub no-kind : (k : ℕ) → 8 < k → bodyLength k ≡ none
+no-kind k h =
+    rw (
+      ne-eqb k 1 (λ z. omega arith),
+      ne-eqb k 2 (λ z. omega arith),
+      ne-eqb k 3 (λ z. omega arith),
+      ne-eqb k 4 (λ z. omega arith),
+      ne-eqb k 5 (λ z. omega arith),
+      ne-eqb k 6 (λ z. omega arith),
+      ne-eqb k 7 (λ z. omega arith),
+      ne-eqb k 8 (λ z. omega arith),
+    )

@@ -1,0 +1,277 @@
+//! The worked examples that crates/format proves of its definitions are what
+//! the reference says: bytes and entries are read from the files Layouts2.antt,
+//! Layouts3.antt and Listings.antt of its proofs.
+//!
+//! For a new example write its bytes there and no entries: the test fails, and
+//! prints the entries.
+
+use std::collections::{BTreeSet, HashMap};
+use std::fs;
+use std::path::Path;
+
+use oracle::{Call, Outcome, Walk};
+
+/// Definitions of lists: the parameters, of which the last is the list's rest,
+/// and the words.
+type Definitions = HashMap<String, (Vec<String>, Vec<String>)>;
+
+/// A file without its comments.
+fn text(name: &str) -> String {
+    let proofs = Path::new(env!("CARGO_MANIFEST_DIR")).join("../../crates/format/proofs");
+    let text = fs::read_to_string(proofs.join(name)).expect(name);
+    let lines = text.lines().filter(|l| !l.trim_start().starts_with("--"));
+    lines.map(|l| format!("{l}\n")).collect()
+}
+
+/// The words of a text. A quotation is one word; brackets and `∷` are none.
+fn words(text: &str) -> Vec<String> {
+    let mut words = Vec::new();
+    for (i, part) in text.split('"').enumerate() {
+        if i % 2 == 1 {
+            words.push(part.to_string());
+        } else {
+            let plain = part.replace(['(', ')', '∷'], " ");
+            words.extend(plain.split_whitespace().map(String::from));
+        }
+    }
+    words
+}
+
+fn definitions(text: &str) -> Definitions {
+    let blocks = text.split("\n\n").filter_map(|block| {
+        let (_, clause) = block
+            .trim_start()
+            .strip_prefix("abbrev pub ")?
+            .split_once('\n')?;
+        let (head, body) = clause.split_once('=')?;
+        let head = words(head);
+        Some((head[0].clone(), (head[1..].to_vec(), words(body))))
+    });
+    blocks.collect()
+}
+
+/// The words with each definition in its place.
+fn expanded(words: &[String], definitions: &Definitions) -> Vec<String> {
+    let mut out = Vec::new();
+    let mut rest = words.iter();
+    while let Some(word) = rest.next() {
+        let Some((parameters, body)) = definitions.get(word) else {
+            out.push(word.clone());
+            continue;
+        };
+        let tail = parameters.last();
+        let arguments: HashMap<_, _> = parameters
+            .iter()
+            .filter(|p| Some(*p) != tail)
+            .zip(rest.by_ref())
+            .collect();
+        let body = body.iter().filter(|w| Some(*w) != tail);
+        out.extend(body.map(|w| (*arguments.get(w).unwrap_or(&w)).clone()));
+    }
+    out
+}
+
+/// The fields of the file's record that state what a word comes to, each with its name.
+fn statements(file: &str, of: &[&str]) -> Vec<(String, Vec<String>)> {
+    let text = text(file);
+    let definitions = definitions(&text);
+    let record = text
+        .split("\n\n")
+        .find(|b| b.trim_start().starts_with("pub record"));
+    let fields = record.expect("a record").split("\n  pub ").skip(1);
+    let fields = fields.filter_map(|field| {
+        let (name, statement) = field.split_once(" : ")?;
+        let statement = words(statement);
+        let stated = of.contains(&statement[0].as_str());
+        stated.then(|| (name.to_string(), expanded(&statement, &definitions)))
+    });
+    fields.collect()
+}
+
+fn number(word: &str) -> u64 {
+    let parsed = match word.strip_prefix("0x") {
+        Some(digits) => u64::from_str_radix(digits, 16),
+        None => word.parse(),
+    };
+    parsed.unwrap_or_else(|_| panic!("no number: {word}"))
+}
+
+/// The words before a mark, taken off together with it.
+fn until(words: &mut Vec<String>, mark: &str) -> Vec<String> {
+    let at = words.iter().position(|w| w == mark).expect(mark);
+    let taken = words.drain(..=at).take(at);
+    taken.collect()
+}
+
+fn numbers(words: &[String]) -> Vec<u64> {
+    words.iter().map(|w| number(w)).collect()
+}
+
+fn bytes(words: &[String]) -> Vec<u8> {
+    let bytes = words.iter().map(|w| u8::try_from(number(w)));
+    bytes.collect::<Result<_, _>>().expect("bytes")
+}
+
+/// An entry's words for a strip's kind, with the widths of its values.
+const KINDS: [(&str, &[usize]); 8] = [
+    ("opens", &[]),
+    ("closes", &[]),
+    ("u8", &[1]),
+    ("u16", &[2]),
+    ("u32", &[4]),
+    ("ip4", &[4]),
+    ("ip6", &[8, 8]),
+    ("bytes", &[]),
+];
+
+/// The strip of a row of entries, by the requirements' table.
+fn strip(entries: &[String]) -> Vec<u8> {
+    let mut strip = Vec::new();
+    let mut rest = entries.iter();
+    while let Some(word) = rest.next() {
+        let kind = KINDS.iter().position(|(name, _)| name == word);
+        let kind = kind.unwrap_or_else(|| panic!("no kind: {word}"));
+        strip.push(kind as u8 + 1);
+        let head: &[usize] = if kind == 1 { &[] } else { &[1, 4, 4] };
+        for width in head.iter().chain(KINDS[kind].1) {
+            let value = number(rest.next().expect("a value"));
+            strip.extend(&value.to_be_bytes()[8 - width..]);
+        }
+    }
+    strip
+}
+
+/// A strip's entries, as they are written in the files.
+fn written(strip: &[u8]) -> String {
+    let mut out = String::new();
+    let mut at = 0;
+    while at < strip.len() {
+        let (name, values) = KINDS[strip[at] as usize - 1];
+        at += 1;
+        out += name;
+        let head: &[usize] = if name == "closes" { &[] } else { &[1, 4, 4] };
+        for (i, &width) in head.iter().chain(values).enumerate() {
+            let value = strip[at..at + width]
+                .iter()
+                .fold(0, |n, &b| n << 8 | u64::from(b));
+            out += &if i < 3 {
+                format!(" {value}")
+            } else {
+                format!(" {value:#x}")
+            };
+            at += width;
+        }
+        out += " ∷\n";
+    }
+    out
+}
+
+/// Compares a walk's statement with the reference; the version and the LSA's bytes.
+fn compare(name: &str, mut statement: Vec<String>) -> (u8, Vec<u8>) {
+    let walk = match statement.remove(0).as_str() {
+        "headersOf" => Walk::Headers,
+        "updateOf" => Walk::Update,
+        _ => Walk::Lsa,
+    };
+    let version = number(&statement.remove(0)) as u8;
+    let data = bytes(&until(&mut statement, "[]"));
+    let mut arguments = numbers(&until(&mut statement, "≡"));
+    let offset = arguments.pop().expect("an offset");
+    let count = arguments.pop().unwrap_or(0) as u32;
+    assert_eq!(statement.remove(0), "accepted", "{name}");
+    let stated = strip(&until(&mut statement, "[]"));
+    let call = Call {
+        version,
+        walk,
+        data: &data,
+        count,
+        offset,
+    };
+    let Outcome::Accepted {
+        strip,
+        records,
+        tail,
+    } = call.run()
+    else {
+        panic!("{name} is refused");
+    };
+    assert!(
+        stated == strip,
+        "{name}: the reference pushes\n{}",
+        written(&strip)
+    );
+    assert_eq!(
+        numbers(&statement),
+        [u64::from(records), u64::from(tail)],
+        "{name}"
+    );
+    (version, data)
+}
+
+#[test]
+fn an_lsa_of_each_layout() {
+    let mut seen = BTreeSet::new();
+    for file in ["Layouts2.antt", "Layouts3.antt"] {
+        for (name, statement) in statements(file, &["lsaOf"]) {
+            let (version, lsa) = compare(&name, statement);
+            let function = u16::from_be_bytes([lsa[2], lsa[3]]) & 0x1fff;
+            seen.insert(if version == 2 {
+                (2, lsa[3].into())
+            } else {
+                (3, function)
+            });
+        }
+    }
+    let layouts = (1..=11)
+        .map(|t| (2, t))
+        .chain((1..=9).chain([12]).chain(33..=42).map(|f| (3, f)));
+    assert_eq!(seen, layouts.collect());
+}
+
+#[test]
+fn walks_at_an_offset() {
+    let walks = statements("Listings.antt", &["headersOf", "updateOf"]);
+    assert_eq!(walks.len(), 3);
+    for (name, statement) in walks {
+        compare(&name, statement);
+    }
+}
+
+/// The print follows the requirements, and what it says is the reference's.
+#[test]
+fn listings() {
+    let accepted = statements("Listings.antt", &["printed"])
+        .into_iter()
+        .filter(|(_, s)| !s.iter().any(|w| w.starts_with("refused")));
+    let accepted: Vec<_> = accepted.collect();
+    assert_eq!(accepted.len(), 3);
+    for (name, mut statement) in accepted {
+        let input = bytes(&until(&mut statement, "[]")[1..]);
+        until(&mut statement, "lines");
+        let lines = until(&mut statement, "[]");
+        let data = &input[2..];
+        let call = Call {
+            version: input[0],
+            walk: [Walk::Headers, Walk::Update, Walk::Lsa][usize::from(input[1])],
+            data,
+            count: data
+                .first_chunk()
+                .map_or(0, |bytes| u32::from_be_bytes(*bytes)),
+            offset: 0,
+        };
+        let Outcome::Accepted {
+            strip,
+            records,
+            tail,
+        } = call.run()
+        else {
+            panic!("{name} is refused");
+        };
+        assert_eq!(
+            lines[0],
+            format!("ok {records} {tail} {}", strip.len()),
+            "{name}"
+        );
+        assert_eq!(listing::strip(&lines[1..].join("\n")), strip, "{name}");
+    }
+}
