@@ -11,7 +11,7 @@ use lib.Dec.{ltb, eqb}
 use borrow.Author.Tests.{ltb-true, ltb-false, eqb-true, eqb-false, le-ltb}
 use Rattle.format.specs.Bytes.{be16At}
 use Rattle.format.specs.Header.{Header, Newness, newness, larger, aged, younger, signedRank, maxAge, maxAgeDiff}
-use Rattle.format.specs.Header.{Reading, readHeader, readNumber, newnessAt, newnessRead, newnessNumber, ReadRefusals, NewnessRefusals, isKnown, headerOf}
+use Rattle.format.specs.Header.{Reading, readHeader, readNumber, newnessAt, newnessRead, newnessNumber, ReadRefusals, NewnessRefusals, isKnown, headerAt}
 use Rattle.format.specs.Header.Newness.{first, second, same, refused}
 use Rattle.format.specs.Header.Reading.{header}
 
@@ -153,7 +153,7 @@ header-number x y = go (ltb 3600 (x .age)) (ltb 3600 (y .age)) _
     go false false n e = e
 
 -- The age is the first two bytes, whatever the version.
-age-at : (v : ℕ) (b : List ℕ) → headerOf v b .age ≡ be16At b 0
+age-at : (v : ℕ) (b : List ℕ) → headerAt v b .age ≡ be16At b 0
 age-at v b = go (eqb v 2) _ _ refl refl
   where
     go : (s : Bool) (g h : Header) → g .age ≡ be16At b 0 → h .age ≡ be16At b 0 → cond s g h .age ≡ be16At b 0
@@ -163,7 +163,7 @@ age-at v b = go (eqb v 2) _ _ refl refl
 number-at : (v : ℕ) (x y : List ℕ) → newnessNumber (newnessAt v x y)
     ≡ cond (isKnown v) (cond (ltb (length x) 20) 4 (cond (ltb (length y) 20) 4 (cond (ltb 3600 (be16At x 0)) 11 (cond (ltb 3600 (be16At y 0)) 11 0)))) 1
 unfolding newnessAt readHeader
-number-at v x y = go (isKnown v) (ltb (length x) 20) (ltb (length y) 20) (headerOf v x) (headerOf v y) (age-at v x) (age-at v y)
+number-at v x y = go (isKnown v) (ltb (length x) 20) (ltb (length y) 20) (headerAt v x) (headerAt v y) (age-at v x) (age-at v y)
   where
     go : (s t u : Bool) (g h : Header) {m n : ℕ} → g .age ≡ m → h .age ≡ n
         → newnessNumber (newnessRead (cond s (cond t (Reading.refused 4) (header g)) (Reading.refused 1)) (cond s (cond u (Reading.refused 4) (header h)) (Reading.refused 1)))

@@ -92,8 +92,8 @@ abbrev pub header3 : List ℕ → Header
 header3 b = headerWith (be16At b 2) b
 
 -- A choice on the version, 2 or 3.
-abbrev pub headerOf : (version : ℕ) → List ℕ → Header
-headerOf v b = cond (eqb v 2) (header2 b) (header3 b)
+abbrev pub headerAt : (version : ℕ) → List ℕ → Header
+headerAt v b = cond (eqb v 2) (header2 b) (header3 b)
 
 -- The versions of OSPF that have these headers.
 abbrev pub isKnown : ℕ → Bool
@@ -109,7 +109,7 @@ unfoldable pub readHeader : (version : ℕ) → List ℕ → Reading
 readHeader v b =
     cond (isKnown v)
     (cond (ltb (length b) headerSize) (refused 4)
-    (header (headerOf v b)))
+    (header (headerAt v b)))
     (refused 1)
 
 -- Which of two instances of an LSA is newer.
