@@ -6,8 +6,8 @@ use mathlib.Core.Bool.{Bool, true, false}
 use mathlib.Core.List.{List}
 use lib.ListN.{length, getD, take, drop}
 use Rattle.format.specs.Bytes.{be32At, be64At}
-use Rattle.format.specs.Walks.{answer, walkOf, answerOf, stripOf}
-use Rattle.answer.specs.Answers.{answered}
+use Rattle.format.specs.Walks.{walkOf, answerOf, stripOf}
+use Rattle.answer.specs.Answers.{answered, answerMeaning}
 use Rattle.answer.specs.declared.Answer.{Answer}
 use Rattle.stored.specs.Stored.{walkAt, roomAt, sizeAt}
 use Rattle.expected.specs.Expected.{lent, sameAnswer, sameBytes, storedAnswer, storedBuffer}
@@ -34,13 +34,13 @@ module _ (b : List ℕ) (p : ℕ) where
 
   -- the answer is not the one stored
   pub answer-differs : {n count offset : ℕ} {before after : List ℕ} {a : Answer} {s : Bool} → Ran b p n count offset before after a
-      → s ≡ sameAnswer (answer (a .number) (a .length) (a .records) (a .tail)) (storedAnswer b (p + 22 + n)) → s ≡ false → agreesAt b p ≡ false
+      → s ≡ sameAnswer (answerMeaning a) (storedAnswer b (p + 22 + n)) → s ≡ false → agreesAt b p ≡ false
   unfolding agreesAt
   answer-differs r e h = let t = rw (r .sized) at (rw (said-by r .0) at (sym e ∙ h)) in rw t
 
   -- it is: the buffer decides
   pub answer-agrees : {n count offset : ℕ} {before after : List ℕ} {a : Answer} {s t : Bool} → Ran b p n count offset before after a
-      → s ≡ sameAnswer (answer (a .number) (a .length) (a .records) (a .tail)) (storedAnswer b (p + 22 + n)) → s ≡ true
+      → s ≡ sameAnswer (answerMeaning a) (storedAnswer b (p + 22 + n)) → s ≡ true
       → length after ≡ roomAt b p → t ≡ sameBytes after (storedBuffer b (p + 22 + n) (length after)) → t ≡ agreesAt b p
   unfolding agreesAt
   answer-agrees {n} {after = after} r e h l k =

@@ -26,14 +26,15 @@ const MAX_DATA: usize = 65535;
 
 const MAX_OFFSET: u64 = 4294901760;
 
-// The refusals of every walk, in their order; the last is for too little room.
-const NO_VERSION: u8 = 1;
+// The refusals of every walk, in their order; the last is for too little room. A header that is read by itself has the first
+// and the fourth of them.
+pub const NO_VERSION: u8 = 1;
 
 const TOO_MUCH: u8 = 2;
 
 const TOO_FAR: u8 = 3;
 
-const TOO_LITTLE: u8 = 4;
+pub const TOO_LITTLE: u8 = 4;
 
 const NO_ROOM: u8 = 5;
 
@@ -56,7 +57,7 @@ pub fn refusal_of(version: u8, data: &[u8], offset: u64, least: usize) -> u8
     0
 }
 
-fn is_known(version: u8) -> bool
+pub fn is_known(version: u8) -> bool
     ensures { λ r. ⌜ r ≡ isKnown version ⌝ }
 {
     if version == 2 { true } else { version == 3 }

@@ -3,7 +3,7 @@
 ghost use mathlib.Core.Path.{_≡_};
 ghost use Prim.Native.Nat.{_+_, _≤_};
 ghost use lib.ListN.{length};
-ghost use Rattle.format.specs.Walks.{answer};
+ghost use Rattle.answer.specs.Answers.{answerMeaning};
 ghost use Rattle.stored.specs.Stored.{keptAt};
 ghost use Rattle.expected.specs.Expected.{lent, sameAnswer, sameBytes, storedAnswer, storedBuffer};
 use answer::Answer;
@@ -17,7 +17,7 @@ pub const FILL: u8 = 165;
 // Whether the answer is the one that is stored at q.
 pub fn is_answer(a: Answer, file: &[u8], q: usize) -> bool
     requires { ⌜ q + 13 ≤ length (now file) ⌝ }
-    ensures { λ r. ⌜ r ≡ sameAnswer (answer (a .number) (a .length) (a .records) (a .tail)) (storedAnswer (now (file .entry)) q) ⌝ }
+    ensures { λ r. ⌜ r ≡ sameAnswer (answerMeaning a) (storedAnswer (now (file .entry)) q) ⌝ }
 {
     if a.number != file[q] {
         return false;

@@ -1,8 +1,10 @@
--- The LSA header of 20 bytes, its entries in a strip, and which of two instances is newer.
-use Prim.Native.Nat.{ℕ, _+_, _-_, _%_}
-use mathlib.Core.Bool.{Bool, false, cond}
+-- The LSA header of 20 bytes, its entries in a strip, its reading from bytes, and which of two instances is newer.
+use Prim.Native.Nat.{ℕ, _+_, _-_, _%_, _<_}
+use mathlib.Core.Path.{_≡_}
+use mathlib.Core.Logic.{_↔_, _⊎_}
+use mathlib.Core.Bool.{Bool, true, false, cond}
 use mathlib.Core.List.{List, [], _∷_, _++_}
-use lib.ListN.{getD}
+use lib.ListN.{length, getD}
 use lib.Dec.{leb, ltb, eqb}
 use Rattle.format.specs.Bytes.{be16At, be32At}
 use Rattle.format.specs.Strip.{Entry, u8At, u16At, u24At, u32At, ip4At}
@@ -89,6 +91,27 @@ header2 b = headerWith (getD b 3 0) b
 abbrev pub header3 : List ℕ → Header
 header3 b = headerWith (be16At b 2) b
 
+-- A choice on the version, 2 or 3.
+abbrev pub headerAt : (version : ℕ) → List ℕ → Header
+headerAt v b = cond (eqb v 2) (header2 b) (header3 b)
+
+-- The versions of OSPF that have these headers.
+abbrev pub isKnown : ℕ → Bool
+isKnown v = cond (eqb v 2) true (eqb v 3)
+
+-- What reading a header comes to.
+pub data Reading : Type 0 where
+  header : Header → Reading
+  refused : (number : ℕ) → Reading
+
+-- The header at the front of the bytes. 1: the version is neither 2 nor 3; 4: too few bytes.
+unfoldable pub readHeader : (version : ℕ) → List ℕ → Reading
+readHeader v b =
+    cond (isKnown v)
+    (cond (ltb (length b) headerSize) (refused 4)
+    (header (headerAt v b)))
+    (refused 1)
+
 -- Which of two instances of an LSA is newer.
 pub data Newness : Type 0 where
   first : Newness
@@ -122,3 +145,37 @@ newness x y =
     (larger (x .checksum) (y .checksum)
     (aged (x .age) (y .age)
     (younger (x .age) (y .age))))))
+
+-- The same of two readings: a header that is not read has no newness.
+abbrev pub newnessRead : Reading → Reading → Newness
+newnessRead (refused n) y = refused n
+newnessRead (header x) (refused n) = refused n
+newnessRead (header x) (header y) = newness x y
+
+-- The same of two LSAs of one version, by their bytes.
+unfoldable pub newnessAt : (version : ℕ) → List ℕ → List ℕ → Newness
+newnessAt v x y = newnessRead (readHeader v x) (readHeader v y)
+
+-- The number of a refusal, 0 where there is none.
+abbrev pub readNumber : Reading → ℕ
+readNumber (header h) = 0
+readNumber (refused n) = n
+
+abbrev pub newnessNumber : Newness → ℕ
+newnessNumber first = 0
+newnessNumber second = 0
+newnessNumber same = 0
+newnessNumber (refused n) = n
+
+-- Each number of a reading is answered exactly when its condition holds and none before it does.
+pub record ReadRefusals (v : ℕ) (b : List ℕ) (number : ℕ) : Type 0 where
+  pub one : (number ≡ 1) ↔ ((v ≡ 2 → ⊥) × (v ≡ 3 → ⊥))
+  pub four : (number ≡ 4) ↔ (((v ≡ 2) ⊎ (v ≡ 3)) × (length b < 20))
+  pub zero : (number ≡ 0) ↔ (((v ≡ 2) ⊎ (v ≡ 3)) × (length b < 20 → ⊥))
+
+-- The same of newness. The age is the first two bytes.
+pub record NewnessRefusals (v : ℕ) (x y : List ℕ) (number : ℕ) : Type 0 where
+  pub one : (number ≡ 1) ↔ ((v ≡ 2 → ⊥) × (v ≡ 3 → ⊥))
+  pub four : (number ≡ 4) ↔ (((v ≡ 2) ⊎ (v ≡ 3)) × ((length x < 20) ⊎ (length y < 20)))
+  pub eleven : (number ≡ 11) ↔ (((v ≡ 2) ⊎ (v ≡ 3)) × (length x < 20 → ⊥) × (length y < 20 → ⊥) × ((3600 < be16At x 0) ⊎ (3600 < be16At y 0)))
+  pub zero : (number ≡ 0) ↔ (((v ≡ 2) ⊎ (v ≡ 3)) × (length x < 20 → ⊥) × (length y < 20 → ⊥) × (3600 < be16At x 0 → ⊥) × (3600 < be16At y 0 → ⊥))

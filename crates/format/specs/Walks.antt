@@ -9,6 +9,7 @@ use Rattle.format.specs.Bytes.{part}
 use Rattle.format.specs.Strip.{Entry, encode, container}
 use Rattle.format.specs.Cut.{Span, cut, after, recordRule}
 use Rattle.format.specs.Header.{headerSize, headerEntries2, headerEntries3}
+pub use Rattle.format.specs.Header.{isKnown}
 use Rattle.format.specs.Body.{listing, whole, leftover}
 use Rattle.format.specs.V2.{lsaEntries2, lsaTail2, unparsedId2}
 use Rattle.format.specs.V3.{lsaEntries3, lsaTail3, unparsedId3}
@@ -54,9 +55,6 @@ maxData = 65535
 
 abbrev pub maxOffset : ℕ
 maxOffset = 4294901760
-
-abbrev pub isKnown : ℕ → Bool
-isKnown v = cond (eqb v 2) true (eqb v 3)
 
 -- The number of the refusal of a call that needs this many bytes at least, 0 where there is none. 1: the version is
 -- neither 2 nor 3; 2: too much data; 3: the offset is too large; 4: too little data.

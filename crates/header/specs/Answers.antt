@@ -1,11 +1,12 @@
 -- The code's header and answers for those of the definitions. A refusal has the number that the requirements give it.
-use Rattle.format.specs.Header as header
-use Rattle.format.specs.Header.Newness.{first, second, same, refused}
+use Rattle.format.specs.Header as format
 use Rattle.header.specs.declared.LsaHeader.{LsaHeader}
+use Rattle.header.specs.declared.Reading.{Reading}
+use Rattle.header.specs.declared.Reading.the-variants as R
 use Rattle.header.specs.declared.Newness.{Newness}
-use Rattle.header.specs.declared.Newness.the-variants.{First, Second, Same, Refused}
+use Rattle.header.specs.declared.Newness.the-variants as N
 
-abbrev pub headerOf : header.Header → LsaHeader
+abbrev pub headerOf : format.Header → LsaHeader
 headerOf h = record {
   age = h .age;
   «ls_type» = h .lsType;
@@ -16,8 +17,12 @@ headerOf h = record {
   length = h .size;
 }
 
+abbrev pub readingOf : format.Reading → Reading
+readingOf (format.Reading.header h) = R.Header (headerOf h)
+readingOf (format.Reading.refused n) = R.Refused n
+
 -- What a header of the code says.
-abbrev pub meaning : LsaHeader → header.Header
+abbrev pub meaning : LsaHeader → format.Header
 meaning h = record {
   age = h .age;
   lsType = h .«ls_type»;
@@ -28,8 +33,8 @@ meaning h = record {
   size = h .length;
 }
 
-abbrev pub newnessOf : header.Newness → Newness
-newnessOf first = First
-newnessOf second = Second
-newnessOf same = Same
-newnessOf (refused n) = Refused n
+abbrev pub newnessOf : format.Newness → Newness
+newnessOf format.Newness.first = N.First
+newnessOf format.Newness.second = N.Second
+newnessOf format.Newness.same = N.Same
+newnessOf (format.Newness.refused n) = N.Refused n

@@ -1,11 +1,15 @@
-// The LSA header of both versions: its type and numbers, its entries in a strip, and which of two instances is newer.
+// The LSA header of both versions: its type and numbers, its reading from bytes, its entries in a strip, and which of two
+// instances is newer.
 ghost use mathlib.Core.Path.{_≡_};
 ghost use Prim.Native.Nat.{_+_, _≤_, _<_};
 ghost use lib.ListN.{length};
-ghost use Rattle.format.specs.Header.{headerSize, maxAge, instanceEntries, header2, header3, headerWith, newness, signedRank, aged, younger};
+ghost use Rattle.format.specs.Header.{headerSize, maxAge, instanceEntries, header2, header3, headerWith, readHeader, newness, newnessAt, signedRank, aged, younger};
 ghost use Rattle.format.specs.Strip.{encode};
 ghost use Rattle.format.specs.Wrote.{Wrote};
-ghost use Rattle.header.specs.Answers.{headerOf, newnessOf, meaning};
+ghost use Rattle.header.specs.Answers.{headerOf, readingOf, newnessOf, meaning};
+use answer::NO_VERSION;
+use answer::TOO_LITTLE;
+use answer::is_known;
 use strip::push::push_u16_at;
 use strip::push::push_u32_at;
 use util::read_be_u16;
@@ -26,6 +30,12 @@ pub struct LsaHeader {
     pub length: u16,
 }
 
+// A header, or the number of the refusal.
+pub enum Reading {
+    Header(LsaHeader),
+    Refused(u8),
+}
+
 // Which of two instances is newer, or the number of the refusal.
 pub enum Newness {
     First,
@@ -33,6 +43,9 @@ pub enum Newness {
     Same,
     Refused(u8),
 }
+
+// The refusal of newness where an age is above MaxAge.
+const AGE_REFUSED: u8 = 11;
 
 impl LsaHeader {
     // The header's length in bytes (RFC 2328 A.4.1).
@@ -42,8 +55,25 @@ impl LsaHeader {
 
     pub const MAX_AGE_DIFF: u16 = 900;
 
+    // The header at the front of an LSA of this version.
+    pub fn read(version: u8, bytes: &[u8]) -> Reading
+        ensures { λ r. ⌜ r ≡ readingOf (readHeader version (now (bytes .entry))) ⌝ }
+    {
+        if !is_known(version) {
+            return Reading::Refused(NO_VERSION);
+        }
+        if bytes.len() < LsaHeader::SIZE {
+            return Reading::Refused(TOO_LITTLE);
+        }
+        if version == 2 {
+            Reading::Header(LsaHeader::v2(bytes))
+        } else {
+            Reading::Header(LsaHeader::v3(bytes))
+        }
+    }
+
     // The header of a version 2 LSA (RFC 2328 A.4.1).
-    pub fn v2(body: &[u8]) -> LsaHeader
+    fn v2(body: &[u8]) -> LsaHeader
         requires { ⌜ headerSize ≤ length (now body) ⌝ }
         ensures { λ r. ⌜ r ≡ headerOf (header2 (now (body .entry))) ⌝ }
     {
@@ -51,7 +81,7 @@ impl LsaHeader {
     }
 
     // The header of a version 3 LSA (RFC 5340 A.4.2).
-    pub fn v3(body: &[u8]) -> LsaHeader
+    fn v3(body: &[u8]) -> LsaHeader
         requires { ⌜ headerSize ≤ length (now body) ⌝ }
         ensures { λ r. ⌜ r ≡ headerOf (header3 (now (body .entry))) ⌝ }
     {
@@ -98,15 +128,30 @@ fn signed_rank(n: u32) -> u32
     }
 }
 
+// Which of two LSAs of one version, given by their bytes, is newer.
+pub fn newer_lsa(version: u8, first: &[u8], second: &[u8]) -> Newness
+    ensures { λ r. ⌜ r ≡ newnessOf (newnessAt version (now (first .entry)) (now (second .entry))) ⌝ }
+{
+    let x = LsaHeader::read(version, first);
+    let y = LsaHeader::read(version, second);
+    match x {
+        Reading::Refused(n) => Newness::Refused(n),
+        Reading::Header(a) => match y {
+            Reading::Refused(n) => Newness::Refused(n),
+            Reading::Header(b) => newer(a, b),
+        },
+    }
+}
+
 // Which of two instances of an LSA is newer (RFC 2328 13.1).
 pub fn newer(x: LsaHeader, y: LsaHeader) -> Newness
     ensures { λ r. ⌜ r ≡ newnessOf (newness (meaning x) (meaning y)) ⌝ }
 {
     if LsaHeader::MAX_AGE < x.age {
-        return Newness::Refused(11);
+        return Newness::Refused(AGE_REFUSED);
     }
     if LsaHeader::MAX_AGE < y.age {
-        return Newness::Refused(11);
+        return Newness::Refused(AGE_REFUSED);
     }
     let a = signed_rank(x.sequence_number);
     let b = signed_rank(y.sequence_number);

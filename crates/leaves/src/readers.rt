@@ -1,5 +1,6 @@
 // The readers, at both ends of a slice.
 use header::LsaHeader;
+use header::Reading;
 use text::line;
 use text::number;
 use text::word;
@@ -34,12 +35,21 @@ pub fn run() {
     headers();
 }
 
+// One header in both versions.
 fn headers() {
     let s = b"\x0e\x10\x22\x0a\x01\x00\x00\x05\xc0\xa8\x00\x01\x80\x00\x00\x02\x12\x34\x00\x18";
     word(b"header");
-    header(LsaHeader::v2(s));
+    reading(LsaHeader::read(2, s));
     word(b"header");
-    header(LsaHeader::v3(s));
+    reading(LsaHeader::read(3, s));
+}
+
+fn reading(r: Reading) {
+    match r {
+        Reading::Header(h) => header(h),
+        Reading::Refused(n) => refused(n),
+    }
+    line();
 }
 
 fn header(h: LsaHeader) {
@@ -50,5 +60,9 @@ fn header(h: LsaHeader) {
     number(h.sequence_number as u64);
     number(h.checksum as u64);
     number(h.length as u64);
-    line();
+}
+
+fn refused(n: u8) {
+    word(b" refused");
+    number(n as u64);
 }

@@ -5,7 +5,9 @@ ghost use mathlib.Core.List.{_∷_, _++_};
 ghost use lib.ListN.{length, take};
 ghost use Rattle.format.specs.Wrote.{Wrote};
 ghost use Rattle.format.specs.Print.{line, lineRoom, firstLine, field, spaced, dotted, hex, newline, ip4Word, ip6Word};
-ghost use Rattle.print.specs.Text.{entryOf, answerOf, fitting};
+ghost use Rattle.step.specs.Answers.{entryMeaning};
+ghost use Rattle.answer.specs.Answers.{answerMeaning};
+ghost use Rattle.print.specs.Text.{fitting};
 use answer::Answer;
 use digits::SPACE;
 use digits::put_dotted;
@@ -24,7 +26,7 @@ const NEWLINE: u8 = 10;
 // The line of an entry. A buffer shorter than LINE is left as it is. What follows the text's definition is what a caller
 // needs to lend out the text alone.
 pub fn entry_line(out: &mut [u8], entry: Entry) -> usize
-    ensures { λ r. ⌜ Wrote (now (out .entry)) 0 (fitting (length (now (out .entry))) (line (entryOf entry))) (now (out .exit)) r ⌝ }
+    ensures { λ r. ⌜ Wrote (now (out .entry)) 0 (fitting (length (now (out .entry))) (line (entryMeaning entry))) (now (out .exit)) r ⌝ }
     ensures { λ r. ⌜ (r ≤ length (now (out .exit))) × (r ≡ length (take r (now (out .exit)))) ⌝ }
 {
     if out.len() < LINE {
@@ -35,7 +37,7 @@ pub fn entry_line(out: &mut [u8], entry: Entry) -> usize
 
 // The first line.
 pub fn answer_line(out: &mut [u8], answer: Answer) -> usize
-    ensures { λ r. ⌜ Wrote (now (out .entry)) 0 (fitting (length (now (out .entry))) (firstLine (answerOf answer))) (now (out .exit)) r ⌝ }
+    ensures { λ r. ⌜ Wrote (now (out .entry)) 0 (fitting (length (now (out .entry))) (firstLine (answerMeaning answer))) (now (out .exit)) r ⌝ }
     ensures { λ r. ⌜ (r ≤ length (now (out .exit))) × (r ≡ length (take r (now (out .exit)))) ⌝ }
 {
     if out.len() < LINE {
@@ -51,7 +53,7 @@ pub fn answer_line(out: &mut [u8], answer: Answer) -> usize
 fn put_ok(out: &mut [u8], answer: Answer) -> usize
     requires { ⌜ lineRoom ≤ length (now out) ⌝ }
     requires { ⌜ answer .number ≡ 0 ⌝ }
-    ensures { λ r. ⌜ Wrote (now (out .entry)) 0 (firstLine (answerOf answer)) (now (out .exit)) r ⌝ }
+    ensures { λ r. ⌜ Wrote (now (out .entry)) 0 (firstLine (answerMeaning answer)) (now (out .exit)) r ⌝ }
 {
     let a = put_word(out, 0, b"ok");
     let b = put_spaced(out, a, answer.records as u64);
@@ -63,7 +65,7 @@ fn put_ok(out: &mut [u8], answer: Answer) -> usize
 fn put_refused(out: &mut [u8], answer: Answer) -> usize
     requires { ⌜ lineRoom ≤ length (now out) ⌝ }
     requires { ⌜ 0 < answer .number ⌝ }
-    ensures { λ r. ⌜ Wrote (now (out .entry)) 0 (firstLine (answerOf answer)) (now (out .exit)) r ⌝ }
+    ensures { λ r. ⌜ Wrote (now (out .entry)) 0 (firstLine (answerMeaning answer)) (now (out .exit)) r ⌝ }
 {
     let a = put_word(out, 0, b"refused");
     let b = put_spaced(out, a, answer.number as u64);
@@ -73,7 +75,7 @@ fn put_refused(out: &mut [u8], answer: Answer) -> usize
 
 fn put_line(out: &mut [u8], entry: Entry) -> usize
     requires { ⌜ lineRoom ≤ length (now out) ⌝ }
-    ensures { λ r. ⌜ Wrote (now (out .entry)) 0 (line (entryOf entry)) (now (out .exit)) r ⌝ }
+    ensures { λ r. ⌜ Wrote (now (out .entry)) 0 (line (entryMeaning entry)) (now (out .exit)) r ⌝ }
 {
     match entry {
         Entry::Open { id, start, end } => put_range(out, b"open", id, start, end),

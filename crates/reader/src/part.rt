@@ -5,6 +5,9 @@ ghost use Prim.Native.Nat.{_+_};
 ghost use lib.ListN.{length};
 ghost use Rattle.format.specs.Part.{liesIn, partNumber, partPlace, partOf};
 
+// The refusal of a range that does not lie in the packet.
+const NOT_IN_PACKET: u8 = 9;
+
 // Whether a range lies in a packet of n bytes. No sum is made, so that none can wrap.
 fn lies_in(n: usize, offset: u64, start: u32, end: u32) -> bool
     ensures { λ r. ⌜ r ≡ liesIn n offset start end ⌝ }
@@ -20,14 +23,14 @@ fn lies_in(n: usize, offset: u64, start: u32, end: u32) -> bool
     to - offset <= n as u64
 }
 
-// 0, or 9 where the part is refused.
+// 0, or the number of the refusal.
 pub fn part_number(packet: &[u8], offset: u64, start: u32, end: u32) -> u8
     ensures { λ r. ⌜ r ≡ partNumber (length (now (packet .entry))) offset start end ⌝ }
 {
     if lies_in(packet.len(), offset, start, end) {
         0
     } else {
-        9
+        NOT_IN_PACKET
     }
 }
 

@@ -1,4 +1,5 @@
--- The code's answers for those of the definitions. A refusal has the number that the requirements give it.
+-- The code's entries and answers for those of the definitions, and what an entry of the code says in them. A refusal has the
+-- number that the requirements give it.
 use Prim.Native.Nat.{ℕ}
 use mathlib.Core.Option.{Option, none, some}
 use Rattle.format.specs.Strip as strip
@@ -20,6 +21,17 @@ entryOf (u32 i s e v) = E.U32 i s e v
 entryOf (ip4 i s e a) = E.Ipv4 i s e a
 entryOf (ip6 i s e h l) = E.Ipv6 i s e h l
 entryOf (bytes i s e) = E.Bytes i s e
+
+-- What an entry of the code says.
+abbrev pub entryMeaning : Entry → strip.Entry
+entryMeaning (E.Open i s e) = opens i s e
+entryMeaning E.Close = closes
+entryMeaning (E.U8 i s e v) = u8 i s e v
+entryMeaning (E.U16 i s e v) = u16 i s e v
+entryMeaning (E.U32 i s e v) = u32 i s e v
+entryMeaning (E.Ipv4 i s e a) = ip4 i s e a
+entryMeaning (E.Ipv6 i s e h l) = ip6 i s e h l
+entryMeaning (E.Bytes i s e) = bytes i s e
 
 abbrev pub stepOf : strip.Step → Step
 stepOf (entry x next) = S.Entry (entryOf x) next

@@ -63,6 +63,13 @@ pub enum Step {
     Refused(u8),
 }
 
+// The refusals of a step, in their order: the place is beyond the strip, no kind has this number, the entry is cut.
+const PLACE_BEYOND: u8 = 6;
+
+const NO_KIND: u8 = 7;
+
+const ENTRY_CUT: u8 = 8;
+
 // The length of a kind's body.
 pub enum BodyLength {
     Bytes(usize),
@@ -138,18 +145,18 @@ pub fn step_at(strip: &[u8], place: usize) -> Step
     ensures { λ r. ⌜ r ≡ stepOf (stepAt (now (strip .entry)) place) ⌝ }
 {
     if strip.len() < place {
-        return Step::Refused(6);
+        return Step::Refused(PLACE_BEYOND);
     }
     if place == strip.len() {
         return Step::End;
     }
     let kind = strip[place];
     let BodyLength::Bytes(n) = body_length(kind) else {
-        return Step::Refused(7);
+        return Step::Refused(NO_KIND);
     };
     let q = place + 1;
     if strip.len() - q < n {
-        return Step::Refused(8);
+        return Step::Refused(ENTRY_CUT);
     }
     Step::Entry(entry_at(kind, strip, q), q + n)
 }

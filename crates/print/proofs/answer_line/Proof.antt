@@ -1,5 +1,5 @@
 use native.Mathlib.Omega.{arith}
-use Rattle.print.specs.Text.{answerOf}
+use Rattle.answer.specs.Answers.{answerMeaning}
 use Rattle.print.proofs.Room.{first-fits, lendable}
 use mathlib.Core.Path.{refl}
 use lib.ListN.{length}
@@ -25,7 +25,7 @@ same-length c = search needs
 returns-2 : tie.Need-returns-2
 returns-2 c =
     let w = c .before .before .put-ok .ensures in
-    let l = first-fits (answerOf (c .before .before .before .before .before .before .before .before .args .answer)) in
+    let l = first-fits (answerMeaning (c .before .before .before .before .before .before .before .before .args .answer)) in
     rw (le-ltb (length (c .before .before .before .before .before .before .before .before .args .out .now)) lineRoom (omega arith)) (w, lendable w l (omega arith))
 
 same-length-2 : tie.Need-same-length-2
@@ -34,7 +34,7 @@ same-length-2 c = search needs
 returns-3 : tie.Need-returns-3
 returns-3 c =
     let w = c .before .before .put-refused .ensures in
-    let l = first-fits (answerOf (c .before .before .before .before .before .before .before .before .args .answer)) in
+    let l = first-fits (answerMeaning (c .before .before .before .before .before .before .before .before .args .answer)) in
     rw (le-ltb (length (c .before .before .before .before .before .before .before .before .args .out .now)) lineRoom (omega arith)) (w, lendable w l (omega arith))
 
 pub answer-line-spec : {M : Type 1} → statement M

@@ -1,5 +1,5 @@
 use native.Mathlib.Omega.{arith}
-use Rattle.print.specs.Text.{entryOf}
+use Rattle.step.specs.Answers.{entryMeaning}
 use Rattle.print.proofs.Room.{line-fits, lendable}
 use mathlib.Core.Path.{refl}
 use lib.ListN.{length}
@@ -22,7 +22,7 @@ same-length c = search needs
 returns-2 : tie.Need-returns-2
 returns-2 c =
     let w = c .before .before .put-line .ensures in
-    let l = line-fits (entryOf (c .before .before .before .before .before .before .args .entry)) in
+    let l = line-fits (entryMeaning (c .before .before .before .before .before .before .args .entry)) in
     rw (le-ltb (length (c .before .before .before .before .before .before .args .out .now)) lineRoom (omega arith)) (w, lendable w l (omega arith))
 
 pub entry-line-spec : {M : Type 1} → statement M
