@@ -19,3 +19,4 @@ pub mod Refusals
 pub mod Within
 pub mod Part
 pub mod Program
+pub mod Pieces

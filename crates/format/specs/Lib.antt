@@ -12,3 +12,4 @@ pub mod Walks
 pub mod Shown
 pub mod Part
 pub mod Print
+pub mod Pieces
