@@ -26,8 +26,12 @@ shown-bound (refused n) = omega arith
 shown-bound (accepted es r t) = go (ltb 65536 (length (encode es))) refl
   where
     go : (b : Bool) → ltb 65536 (length (encode es)) ≡ b → length (shownOf (accepted es r t) 65536) ≤ 65536
-    go true e = rw e (omega arith)
-    go false e = let l = longer es in let m = ltb-false _ _ e in rw e (omega arith)
+    go true e = let z : shownOf (accepted es r t) 65536 ≡ [] = rw e in rw z (omega arith)
+    go false e =
+        let z : shownOf (accepted es r t) 65536 ≡ es = rw e in
+        let l = longer es in
+        let m = ltb-false 65536 (length (encode es)) e in
+        rw z (omega arith)
 
 pub text-bound : (input : List ℕ) → length (printed input) ≤ 10485920
 unfolding printed
