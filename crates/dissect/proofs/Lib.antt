@@ -1,1 +1,3 @@
-pub mod Forward
+pub mod Bound
+pub mod Turn
+pub mod First

@@ -35,3 +35,4 @@ pub mod ListRanges
 pub mod Part
 pub mod Program
 pub mod Input
+pub mod Pieces

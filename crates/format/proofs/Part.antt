@@ -118,7 +118,7 @@ names d o s e l = record {
         record { from = omega arith; ordered = l .ordered; to = omega arith }
 
 -- What is read whole is read step by step.
-reads-from : (k : ℕ) (s : List ℕ) (p : ℕ) (es : List Entry) → readFrom k s p ≡ some es → Reads s p es
+pub reads-from : (k : ℕ) (s : List ℕ) (p : ℕ) (es : List Entry) → readFrom k s p ≡ some es → Reads s p es
 unfolding readFrom
 reads-from zero s p es h = let z : _≡_ {A = ℕ} 0 1 = cc in absurd (omega arith)
 reads-from (suc k) s p es h = go (stepAt s p) refl h (reads-from k s)

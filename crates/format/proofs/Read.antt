@@ -62,7 +62,7 @@ read-from (e ∷ es) pre (suc k) h =
     rw (readFrom, at-entry pre e (encode es), ih)
 
 -- an entry has a byte at least
-longer : (es : List Entry) → length es ≤ length (encode es)
+pub longer : (es : List Entry) → length es ≤ length (encode es)
 unfolding encode code
 longer [] = zero-le
 longer (e ∷ es) = let h = longer es in let k = one e in rw length-append (omega arith)

@@ -19,7 +19,7 @@ isField (ip4 i s e a) = true
 isField (ip6 i s e h l) = true
 isField (bytes i s e) = true
 
--- A field's start and end.
+-- The start and the end of an entry. A close has none.
 abbrev pub start : Entry → ℕ
 start (opens i s e) = s
 start closes = 0

@@ -19,3 +19,4 @@ pub mod Refusals
 pub mod Newer
 pub mod Host
 pub mod Print
+pub mod Pieces

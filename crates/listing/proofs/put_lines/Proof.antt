@@ -1,0 +1,102 @@
+use Prim.Native.Nat.{_-_}
+use native.Mathlib.Omega.{arith}
+use lib.ListN.{length}
+use borrow.Author.Needs.{needs}
+use Rattle.format.proofs.Wrote.{kept}
+use Rattle.format.proofs.Pieces.{forward}
+use Rattle.print.specs.Text.{entryOf}
+use Rattle.print.proofs.Room.{line-fits}
+use Rattle.listing.proofs.Steps.{entry-of, no-entry}
+use Rattle.listing.proofs.Filling.{Filling, line-put, begin, turn, full, ended}
+use Rattle.listing.proofs.put_lines.Statement.{statement}
+use Rattle.listing.proofs.put_lines.Tie as tie
+
+abbrev Inv-loop : tie.InvT-loop
+Inv-loop out₀ strip place length₀ next₀ out size next = Filling out₀ strip place out size next
+
+abbrev μ-loop : tie.MeasureT-loop
+μ-loop out₀ strip place length₀ next₀ out size next = length strip - next
+
+loop-holds : tie.Need-loop-holds Inv-loop μ-loop
+loop-holds c = begin _ _ _
+
+sub-loop : tie.Need-sub-loop Inv-loop μ-loop
+sub-loop c = search needs
+
+step-from-requires : tie.Need-step-from-requires Inv-loop μ-loop
+step-from-requires c κs = search needs
+
+enum-known-entry : tie.Need-enum-known-entry Inv-loop μ-loop
+enum-known-entry c = search needs
+
+sub-entry-line : tie.Need-sub-entry-line Inv-loop μ-loop
+sub-entry-line c = search needs
+
+part-entry-line-start : tie.Need-part-entry-line-start Inv-loop μ-loop
+part-entry-line-start c = search needs
+
+part-entry-line-end : tie.Need-part-entry-line-end Inv-loop μ-loop
+part-entry-line-end c = search needs
+
+entry-line-requires : tie.Need-entry-line-requires Inv-loop μ-loop
+entry-line-requires c κs = search needs
+
+add-length : tie.Need-add-length Inv-loop μ-loop
+add-length c =
+    let x = entryOf (c .before .before .before .before .before .entry .given .0 .0) in
+    let l = line-fits x in
+    let b = c .before .before .before .before .before .before .before .before .before .loop in
+    let w = line-put {l = b .out} {a = b .length} x (omega arith) (c .before .before .entry-line .ensures .0) in
+    let n = kept (b .inv .wrote) in
+    omega (arith, w .place)
+
+loop-less : tie.Need-loop-less Inv-loop μ-loop
+loop-less c =
+    let l = c .before .before .before .before .before .before .before .before .before .loop in
+    let k = c .before .before .before .before .before .before .before .step-from in
+    let e = entry-of _ (k .result) _ _ (k .ensures) (c .before .before .before .before .before .entry .given .1) in
+    let g = forward _ (l .next) _ _ e in
+    omega arith
+
+loop-again : tie.Need-loop-again Inv-loop μ-loop
+loop-again c =
+    let l = c .before .before .before .before .before .before .before .before .before .loop in
+    let k = c .before .before .before .before .before .before .before .step-from in
+    let e = entry-of _ (k .result) _ _ (k .ensures) (c .before .before .before .before .before .entry .given .1) in
+    turn _ _ _ _ _ _ (l .inv) _ _ (omega arith) e (line-put _ (omega arith) (c .before .before .entry-line .ensures .0))
+
+same-length : tie.Need-same-length Inv-loop μ-loop
+same-length c = kept (c .before .loop .inv .wrote)
+
+returns : tie.Need-returns Inv-loop μ-loop
+returns c = full _ _ _ _ _ _ (c .before .loop .inv) (omega arith)
+
+same-length-2 : tie.Need-same-length-2 Inv-loop μ-loop
+same-length-2 c = kept (c .before .before .before .loop .inv .wrote)
+
+returns-2 : tie.Need-returns-2 Inv-loop μ-loop
+returns-2 c =
+    let k = c .before .step-from in
+    ended _ _ _ _ _ _ (c .before .before .before .loop .inv) (λ x q e. no-entry _ (k .result) (k .ensures) (c .match .keys2) x q e)
+
+pub put-lines-spec : {M : Type 1} → statement M
+put-lines-spec =
+    tie.close
+    (tie.spec
+    Inv-loop
+    μ-loop
+    loop-holds
+    sub-loop
+    step-from-requires
+    enum-known-entry
+    sub-entry-line
+    part-entry-line-start
+    part-entry-line-end
+    entry-line-requires
+    add-length
+    loop-less
+    loop-again
+    same-length
+    returns
+    same-length-2
+    returns-2)
