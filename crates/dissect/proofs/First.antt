@@ -14,12 +14,12 @@ use Rattle.format.specs.Print.{programOf, lineRoom, firstLine, printed}
 use Rattle.format.specs.Pieces.{shownPart, Left}
 use Rattle.format.proofs.Pieces.{begin}
 use Rattle.answer.specs.declared.Answer.{Answer}
-use Rattle.answer.specs.Answers.{answered}
-use Rattle.print.specs.Text as text
+use Rattle.answer.specs.Answers.{answered, answerMeaning}
+use Rattle.print.specs.Text.{fitting}
 use Rattle.dissect.proofs.Turn.{front}
 
 module _ (input before : List ℕ) (a : Answer) (size : length before ≡ 65536) (run : a ≡ answered (answerOf (programOf input) (length before)))
-    {line line₁ : List ℕ} {k : ℕ} (room : 160 ≤ length line) (w : Wrote line 0 (text.fitting (length line) (firstLine (text.answerOf a))) line₁ k) (h : k ≤ length line₁) where
+    {line line₁ : List ℕ} {k : ℕ} (room : 160 ≤ length line) (w : Wrote line 0 (fitting (length line) (firstLine (answerMeaning a))) line₁ k) (h : k ≤ length line₁) where
   is : take k line₁ ≡ firstLine (answerOf (programOf input) 65536)
   is = front w h ∙ rw (le-ltb (length line) lineRoom room, run, size)
 
@@ -27,6 +27,6 @@ module _ (input before : List ℕ) (a : Answer) (size : length before ≡ 65536)
   unfolding printed
   first = (rw is (sym (take-append-seam (firstLine (answerOf (programOf input) 65536)) _)), rw (is, zero-add) (begin input before size .inside))
 
-  pub others : {strip shown : List ℕ} {written : ℕ} → strip ≡ stripOf (programOf input) before → shown ≡ shownPart (text.answerOf a) strip → written ≡ 0 + length (take k line₁)
+  pub others : {strip shown : List ℕ} {written : ℕ} → strip ≡ stripOf (programOf input) before → shown ≡ shownPart (answerMeaning a) strip → written ≡ 0 + length (take k line₁)
       → Left (printed input) written shown 0
   others s p e = rw (e, zero-add, is, p, s, run, size) (begin input before size)

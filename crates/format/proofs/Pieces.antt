@@ -21,36 +21,13 @@ use Rattle.format.specs.Print.{programOf, spaced, line, lineRoom, firstL
 use Rattle.format.specs.Pieces.{Lines, lines, linesFrom, linesAt, shownPart, Pieces, Row, Left}
 use Rattle.format.specs.Pieces.Pieces.{ends, goes}
 use Rattle.format.specs.Pieces.Row.{row}
+use Rattle.format.proofs.Steps.{steps as step-table}
 use Rattle.format.proofs.Shown.{read-strip}
 use Rattle.format.proofs.Part.{reads-from}
 
 -- A step over an entry goes forward, and not beyond the strip's end.
 pub forward : (s : List ℕ) (p : ℕ) (x : Entry) (q : ℕ) → stepAt s p ≡ entry x q → (p < q) × (q ≤ length s)
-unfolding stepAt
-forward s p x q h = inside (ltb (length s) p) (eqb p (length s)) h
-  where
-    fits : (n : ℕ) (t : Bool) → leb (p + 1 + n) (length s) ≡ t
-        → cond t (entry (entryAt (getD s p 0) s (p + 1)) (p + 1 + n)) (refused 8) ≡ entry x q → (p < q) × (q ≤ length s)
-    fits n true l e =
-        let z : p + 1 + n ≡ q = cc in
-        let k = leb-true (p + 1 + n) (length s) l in
-        (omega arith, omega arith)
-    fits n false l e = let z : _≡_ {A = ℕ} 0 1 = cc in absurd (omega arith)
-
-    kinds : (k : Option ℕ) → elim k [
-      | none ↦ refused 7
-      | some n ↦ cond (leb (p + 1 + n) (length s)) (entry (entryAt (getD s p 0) s (p + 1)) (p + 1 + n)) (refused 8)
-    ] ≡ entry x q → (p < q) × (q ≤ length s)
-    kinds (some n) e = fits n (leb (p + 1 + n) (length s)) refl e
-    kinds none e = let z : _≡_ {A = ℕ} 0 1 = cc in absurd (omega arith)
-
-    inside : (t u : Bool) → cond t (refused 6) (cond u end (elim (bodyLength (getD s p 0)) [
-      | none ↦ refused 7
-      | some n ↦ cond (leb (p + 1 + n) (length s)) (entry (entryAt (getD s p 0) s (p + 1)) (p + 1 + n)) (refused 8)
-    ])) ≡ entry x q → (p < q) × (q ≤ length s)
-    inside true u e = let z : _≡_ {A = ℕ} 0 1 = cc in absurd (omega arith)
-    inside false true e = let z : _≡_ {A = ℕ} 0 1 = cc in absurd (omega arith)
-    inside false false e = kinds (bodyLength (getD s p 0)) e
+forward s p x q h = let g = step-table s p .gives x q .0 h in let e = g .4 in let l = g .2 in (omega arith, omega arith)
 
 -- What a call puts of the entries that a strip reads as: the lines of the first of them, and of one at least where a line has its room.
 record Split (room : ℕ) (s : List ℕ) (es : List Entry) (l : Lines) : Type 0 where
@@ -63,13 +40,8 @@ record Split (room : ℕ) (s : List ℕ) (es : List Entry) (l : Lines) : Type 0 
 
 -- No step is taken beyond the end.
 not-beyond : (s : List ℕ) (p : ℕ) (es : List Entry) → Reads s p es → p ≤ length s
-unfolding stepAt
-not-beyond s p es r = go (ltb (length s) p) refl es r
-  where
-    go : (t : Bool) → ltb (length s) p ≡ t → (es : List Entry) → Reads s p es → p ≤ length s
-    go false e es r = ltb-false (length s) p e
-    go true e [] (reads-end f) = let z = rw e at f in let y : _≡_ {A = ℕ} 0 1 = cc in absurd (omega arith)
-    go true e (x ∷ xs) (steps f r) = let z = rw e at f in let y : _≡_ {A = ℕ} 0 1 = cc in absurd (omega arith)
+not-beyond s p [] (reads-end f) = let e = step-table s p .ends .0 f in omega arith
+not-beyond s p (x ∷ xs) (steps f r) = let g = forward s p x _ f in omega arith
 
 split : (k room : ℕ) (s : List ℕ) (p : ℕ) (es : List Entry) → Reads s p es → length s < k + p → Split room s es (linesFrom k room s p)
 unfolding linesFrom flatMap

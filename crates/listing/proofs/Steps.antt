@@ -1,38 +1,26 @@
 -- The code's step, as that of the definitions.
 use Prim.Native.Nat.{ℕ}
 use native.Mathlib.Omega.{arith}
-use mathlib.Core.Path.{_≡_, refl, _∙_}
+use mathlib.Core.Path.{_≡_, _∙_}
 use mathlib.Core.Logic.{⊎-elim}
 use mathlib.Core.List.{[], _∷_}
 use types.Run.{OneOf}
 use denote.Enum.Declared.{tagOf}
 use Rattle.format.specs.Strip as strip
-use Rattle.format.specs.Strip.Entry.{opens, closes, u8, u16, u32, ip4, ip6, bytes}
 use Rattle.format.specs.Strip.Step.{entry, end, refused}
 use Rattle.step.specs.Answers as step
 use Rattle.step.specs.declared.Entry.{Entry}
 use Rattle.step.specs.declared.Step.{Step}
 use Rattle.step.specs.declared.Step.the-variants as S
 use Rattle.step.proofs.Step.{the-type}
-use Rattle.print.specs.Text as text
-
--- an entry of the definitions, there and back
-back : (x : strip.Entry) → text.entryOf (step.entryOf x) ≡ x
-back (opens i s e) = refl
-back closes = refl
-back (u8 i s e v) = refl
-back (u16 i s e v) = refl
-back (u32 i s e v) = refl
-back (ip4 i s e a) = refl
-back (ip6 i s e h l) = refl
-back (bytes i s e) = refl
+use Rattle.step.proofs.Entries.{entry-meant}
 
 -- The step gave an entry.
-pub entry-of : (t : strip.Step) (r : Step) (x : Entry) (q : ℕ) → r ≡ step.stepOf t → r ≡ S.Entry x q → t ≡ entry (text.entryOf x) q
+pub entry-of : (t : strip.Step) (r : Step) (x : Entry) (q : ℕ) → r ≡ step.stepOf t → r ≡ S.Entry x q → t ≡ entry (step.entryMeaning x) q
 entry-of (entry y p) r x q e h =
     let z : x ≡ step.entryOf y = cc in
     let n : p ≡ q = cc in
-    rw (z, back y, n)
+    rw (z, entry-meant y, n)
 entry-of end r x q e h = let z : _≡_ {A = ℕ} 0 1 = cc in absurd (omega arith)
 entry-of (refused n) r x q e h = let z : _≡_ {A = ℕ} 0 1 = cc in absurd (omega arith)
 

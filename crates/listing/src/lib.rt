@@ -4,7 +4,7 @@ ghost use Prim.Native.Nat.{_≤_};
 ghost use lib.ListN.{length, take};
 ghost use Rattle.format.specs.Wrote.{Wrote};
 ghost use Rattle.format.specs.Pieces.{linesAt, shownPart};
-ghost use Rattle.print.specs.Text.{answerOf};
+ghost use Rattle.answer.specs.Answers.{answerMeaning};
 use answer::Answer;
 use print::LINE;
 use print::entry_line;
@@ -38,7 +38,7 @@ pub fn put_lines(out: &mut [u8], strip: &[u8], place: usize) -> Lines
 
 // The part of the strip buffer whose entries are printed: nothing where the answer is a refusal.
 pub fn shown_part(strip: &[u8], answer: Answer) -> &[u8]
-    ensures { λ r. ⌜ now r ≡ shownPart (answerOf answer) (now (strip .entry)) ⌝ }
+    ensures { λ r. ⌜ now r ≡ shownPart (answerMeaning answer) (now (strip .entry)) ⌝ }
 {
     let length = answer.length;
     if answer.number != 0 {

@@ -4,7 +4,7 @@ use lib.ListN.{length}
 use borrow.Author.Needs.{needs}
 use Rattle.format.proofs.Wrote.{kept}
 use Rattle.format.proofs.Pieces.{forward}
-use Rattle.print.specs.Text.{entryOf}
+use Rattle.step.specs.Answers.{entryMeaning}
 use Rattle.print.proofs.Room.{line-fits}
 use Rattle.listing.proofs.Steps.{entry-of, no-entry}
 use Rattle.listing.proofs.Filling.{Filling, line-put, begin, turn, full, ended}
@@ -43,7 +43,7 @@ entry-line-requires c κs = search needs
 
 add-length : tie.Need-add-length Inv-loop μ-loop
 add-length c =
-    let x = entryOf (c .before .before .before .before .before .entry .given .0 .0) in
+    let x = entryMeaning (c .before .before .before .before .before .entry .given .0 .0) in
     let l = line-fits x in
     let b = c .before .before .before .before .before .before .before .before .before .loop in
     let w = line-put {l = b .out} {a = b .length} x (omega arith) (c .before .before .entry-line .ensures .0) in
