@@ -5,7 +5,7 @@ use native.Mathlib.Omega.{arith}
 use mathlib.Core.Path.{_≡_, refl, sym, ap, subst, _∙_}
 use mathlib.Core.Logic.{_↔_, ⊎-elim}
 use mathlib.Core.Bool.{Bool, true, false, cond}
-use mathlib.Core.List.{List, [], _∷_, List·Memᴰ, List·Memᴰ·cases-cons, List·Memᴰ·not-nil}
+use mathlib.Core.List.{List, List·Memᴰ, List·Memᴰ·cases-cons, List·Memᴰ·not-nil}
 use mathlib.Core.List.List·Memᴰ.{List·Memᴰ·head, List·Memᴰ·tail}
 use mathlib.Core.Option.{Option, none, some}
 use lib.ListN.{length, getD}
@@ -13,11 +13,11 @@ use lib.Dec.{leb}
 use borrow.Author.Tests.{leb-true, le-leb}
 use Rattle.format.specs.Bytes.{be16At}
 use Rattle.format.specs.Prefix.{octets}
-use Rattle.format.specs.Cut.{Span, Rule, cut, after, Stands, IsCut, standing, recordRule, linkRule, prefixRule, fixedRule}
+use Rattle.format.specs.Cut.{Span, Rule, cut, after, Stands, standing, recordRule, linkRule, prefixRule, fixedRule}
 use Rattle.format.specs.Cut.Stands.{done as no-more, next as one-more}
 use Rattle.format.specs.CutInto.{FixedAt, RecordAt, LinkAt, PrefixAt, EndToEnd, CutInto}
 use Rattle.format.specs.CutInto.EndToEnd.{done, next}
-use Rattle.format.proofs.Rules.{Inside, inside}
+use Rattle.format.proofs.Rules.{inside}
 use Rattle.format.proofs.Unique.{cut-none, cut-some, is-cut, only}
 
 -- The converse of `inside`.

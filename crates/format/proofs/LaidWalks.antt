@@ -10,7 +10,6 @@ use mathlib.Core.Option.{some}
 use lib.ListN.{length, drop, length-drop}
 use lib.Seq.{length-take-le}
 use lib.Dec.{eqb}
-use borrow.Author.Tests.{eqb-true}
 use Rattle.format.specs.Bytes.{part}
 use Rattle.format.specs.Strip.{Entry}
 use Rattle.format.specs.Strip.Entry.{bytes}
@@ -19,7 +18,7 @@ use Rattle.format.specs.Body.{whole}
 use Rattle.format.specs.Walks.{headerObject, lsaObject, lsaEntries, lsaTail, outer, unparsedId, headers, lsas}
 use Rattle.format.specs.Laid.{Laid, among, anything, Ending}
 use Rattle.format.specs.Laid.Ending.{nothing-left, unparsed-left, raw-or-tlvs}
-use Rattle.format.specs.Lists.{containers, rawOrTlvs, unparsed, holds}
+use Rattle.format.specs.Lists.{containers, rawOrTlvs, unparsed}
 use Rattle.format.proofs.Unique.{span}
 use Rattle.format.proofs.Rules.{inside}
 use Rattle.format.proofs.Laid.{after-from, cut-inside, widen, weaken, laid-append, laid-container, laid-cond, laid-listing, laid-leftover, laid-member}

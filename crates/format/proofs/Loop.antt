@@ -10,7 +10,7 @@ use lib.ListN.{length, length-append}
 use Rattle.format.specs.Strip.{Entry, encode}
 use Rattle.format.specs.Wrote.{Wrote}
 use Rattle.format.specs.Cut.{Span, Rule, cut, after}
-use Rattle.format.proofs.Wrote.{then, nothing, kept, encode-append}
+use Rattle.format.proofs.Wrote.{then, kept, encode-append}
 use Rattle.format.proofs.Unique.{span, cut-some}
 
 -- The bytes of the entries that f gives for each span.

@@ -6,7 +6,7 @@ use mathlib.Core.Logic.{_↔_, _⊎_, inl, inr, ⊎-elim}
 use mathlib.Core.Bool.{Bool, true, false, cond}
 use lib.Dec.{ltb, eqb}
 use borrow.Author.Tests.{ltb-true, ltb-false, lt-ltb, le-ltb, eqb-true, eqb-false, eq-eqb, ne-eqb}
-use Rattle.format.specs.Header.{Header, Newness, newness, signedRank, maxAge, maxAgeDiff, larger, aged, younger}
+use Rattle.format.specs.Header.{Header, Newness, newness, signedRank, larger, aged, younger}
 use Rattle.format.specs.Header.Newness.{first, second, same, refused}
 use Rattle.format.specs.Newer.{SignedBelow, Newer, NewnessIs}
 use Rattle.format.specs.Newer.SignedBelow.{negative, both-negative, neither-negative}

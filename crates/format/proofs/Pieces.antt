@@ -4,15 +4,14 @@ use native.Mathlib.Omega.{arith}
 use mathlib.Core.Path.{_≡_, refl, ap, _∙_, sym}
 use mathlib.Core.Bool.{Bool, true, false, cond}
 use mathlib.Core.List.{List, [], _∷_, _++_, append-assoc, append-nil, flatMap, flatten}
-use mathlib.Core.Option.{Option, none, some}
-use lib.ListN.{length, getD, take, drop, length-append, length-drop, take-append-drop}
+use lib.ListN.{length, take, drop, length-append, length-drop, take-append-drop}
 use lib.Seq.{drop-drop, take-append-seam, drop-append-seam}
-use lib.Dec.{ltb, leb, eqb}
-use borrow.Author.Tests.{leb-true, ltb-true, ltb-false, ne-eqb}
+use lib.Dec.{ltb, eqb}
+use borrow.Author.Tests.{ltb-true, ltb-false, ne-eqb}
 use Rattle.format.specs.Bytes.{part}
-use Rattle.format.specs.Strip.{Entry, encode, stepAt, bodyLength, entryAt, readAll}
+use Rattle.format.specs.Strip.{Entry, encode, stepAt, readAll}
 use Rattle.format.specs.Strip.Entry.{opens, closes, u8, u16, u32, ip4, ip6, bytes}
-use Rattle.format.specs.Strip.Step.{entry, end, refused}
+use Rattle.format.specs.Strip.Step.{entry}
 use Rattle.format.specs.Walks.{Outcome, answerOf, stripOf}
 use Rattle.format.specs.Walks.Outcome.{accepted, refused as refusing}
 use Rattle.format.specs.Part.{Reads}

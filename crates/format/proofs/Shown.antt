@@ -1,5 +1,5 @@
 -- Each list is shown by its strip: the LSAs of an update, the links of a Router-LSA, prefixes; and the headers of a list.
-use Prim.Native.Nat.{ℕ, _+_, _-_, _%_, _≤_, _<_}
+use Prim.Native.Nat.{ℕ, _+_, _-_, _≤_, _<_}
 use native.Mathlib.Nat.{zero-add}
 use native.Mathlib.Omega.{arith}
 use mathlib.Core.Path.{_≡_, refl, sym, ap, _∙_}
@@ -20,7 +20,7 @@ use Rattle.format.specs.Header.{headerSize, headerEntries2, headerEntrie
 use Rattle.format.specs.Body.{listing, leftover, bodyEntries, bodyTail}
 use Rattle.format.specs.V2 as v2
 use Rattle.format.specs.V3 as v3
-use Rattle.format.specs.Walks.{lsaEntries, lsaTail, headers}
+use Rattle.format.specs.Walks.{lsaEntries, lsaTail}
 use Rattle.format.specs.Ranges.{Range, range, ranges, placed}
 use Rattle.format.specs.Shown.{Shows, Listed, LsaShows}
 use Rattle.format.proofs.Read.{read-encode}

@@ -1,13 +1,11 @@
 -- The strip's table, in bytes: the kinds 1 to 8, and what stands in the body of each, for all ids, places and values.
-use Prim.Native.Nat.{ℕ, _+_, _/_, _%_, _<_}
+use Prim.Native.Nat.{ℕ, _+_, _/_, _%_}
 use native.Mathlib.Omega.{arith}
 use mathlib.Core.Path.{_≡_, refl}
 use mathlib.Core.List.{List, [], _∷_, _++_, map}
-use mathlib.Core.Option.{none, some}
 use lib.ListN.{length}
-use borrow.Author.Tests.{ne-eqb}
 use Rattle.format.specs.Bytes.{be32, be64}
-use Rattle.format.specs.Strip.{Entry, code, bodyLength}
+use Rattle.format.specs.Strip.{Entry, code}
 use Rattle.format.specs.Strip.Entry.{opens, closes, u8, u16, u32, ip4, ip6, bytes}
 
 -- The bytes of a number of 32 or 64 bits, each by its weight.
@@ -75,21 +73,3 @@ kinds i s e =
       bytes-entry = cc;
       lengths = λ v h l. refl;
     }
-
--- The lengths by which the reader steps, for the bytes 0 to 8; above them is no kind.
-pub body-lengths : map bodyLength (0 ∷ 1 ∷ 2 ∷ 3 ∷ 4 ∷ 5 ∷ 6 ∷ 7 ∷ 8 ∷ [])
-    ≡ none ∷ some 9 ∷ some 0 ∷ some 10 ∷ some 11 ∷ some 13 ∷ some 13 ∷ some 25 ∷ some 9 ∷ []
-body-lengths = refl
-
-pub no-kind : (k : ℕ) → 8 < k → bodyLength k ≡ none
-no-kind k h =
-    rw (
-      ne-eqb k 1 (λ z. omega arith),
-      ne-eqb k 2 (λ z. omega arith),
-      ne-eqb k 3 (λ z. omega arith),
-      ne-eqb k 4 (λ z. omega arith),
-      ne-eqb k 5 (λ z. omega arith),
-      ne-eqb k 6 (λ z. omega arith),
-      ne-eqb k 7 (λ z. omega arith),
-      ne-eqb k 8 (λ z. omega arith),
-    )

@@ -8,7 +8,6 @@ use lib.ListN.{length, take, length-map, length-append}
 use lib.Seq.{sets, length-take-le, length-sets}
 use lib.Dec.{eqb, ltb}
 use borrow.Author.Tests.{ltb-false, eqb-true, eqb-false}
-use Rattle.format.specs.Bytes.{part}
 use Rattle.format.specs.Strip.{Entry, code, encode}
 use Rattle.format.specs.Cut.{Span, cut, after, recordRule, fixedRule}
 use Rattle.format.specs.CutInto.{FixedAt, RecordAt}

@@ -1,6 +1,6 @@
 -- The cut of a body into entries end to end, for any rule that says how long an entry is; and the rules of the three
 -- lists that are cut by a count: the LSAs of an update, the links of a Router-LSA, and prefixes.
-use Prim.Native.Nat.{ℕ, zero, suc, _+_, _*_, _-_, _≤_, _<_}
+use Prim.Native.Nat.{ℕ, zero, suc, _+_, _*_, _≤_, _<_}
 use mathlib.Core.Path.{_≡_}
 use mathlib.Core.Bool.{cond}
 use mathlib.Core.List.{List, [], _∷_}

@@ -1,5 +1,5 @@
 -- The LSA header of 20 bytes, its entries in a strip, its reading from bytes, and which of two instances is newer.
-use Prim.Native.Nat.{ℕ, _+_, _-_, _%_, _<_}
+use Prim.Native.Nat.{ℕ, _+_, _%_, _<_}
 use mathlib.Core.Path.{_≡_}
 use mathlib.Core.Logic.{_↔_, _⊎_}
 use mathlib.Core.Bool.{Bool, true, false, cond}

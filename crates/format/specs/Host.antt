@@ -1,6 +1,6 @@
 -- What the host's one number says, with the lent buffer before and after the call: the requirements of a walk as whoever
 -- calls an export sees them.
-use Prim.Native.Nat.{ℕ, _+_, _/_, _%_}
+use Prim.Native.Nat.{ℕ, _/_, _%_}
 use mathlib.Core.Path.{_≡_}
 use mathlib.Core.Logic.{_⊎_}
 use mathlib.Core.List.{List}

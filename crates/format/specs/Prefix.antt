@@ -1,9 +1,9 @@
 -- Address prefixes of version 3 (RFC 5340 A.4.1): "an even multiple of 32-bit words, padding with zero bits".
-use Prim.Native.Nat.{ℕ, _+_, _*_, _/_, _-_}
+use Prim.Native.Nat.{ℕ, _+_, _*_, _/_}
 use mathlib.Core.Bool.{Bool, true, false, cond}
 use mathlib.Core.List.{List, [], _∷_, _++_}
 use mathlib.Core.Option.{Option, none, some}
-use lib.ListN.{length, take, replicate}
+use lib.ListN.{take, replicate}
 use lib.Dec.{leb, ltb, eqb}
 use Rattle.format.specs.Bytes.{part, be64At}
 use Rattle.format.specs.Strip.{Entry}

@@ -10,7 +10,7 @@ use Rattle.format.specs.Bytes.{be16At, be32At}
 use Rattle.format.specs.Strip.{Entry, container, readAll}
 use Rattle.format.specs.Strip.Entry.{bytes}
 use Rattle.format.specs.Cut.{Span}
-use Rattle.format.specs.Ranges.{Range, range, ranges, placed}
+use Rattle.format.specs.Ranges.{range, ranges, placed}
 use Rattle.format.specs.Laid.{Laid, anything, Ending}
 use Rattle.format.specs.Lists.{containers, rawOrTlvs, unparsed, holds, linkRanges, prefixRanges}
 use Rattle.format.specs.CutInto.{CutInto, FixedAt, RecordAt, LinkAt, PrefixAt}

@@ -1,5 +1,5 @@
 -- The strip: its entries, their bytes, and how they are read back.
-use Prim.Native.Nat.{ℕ, zero, suc, _+_, _-_, _/_, _%_}
+use Prim.Native.Nat.{ℕ, zero, suc, _+_, _/_, _%_}
 use mathlib.Core.Bool.{cond}
 use mathlib.Core.List.{List, [], _∷_, _++_}
 use mathlib.Core.Option.{Option, none, some}

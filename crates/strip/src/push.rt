@@ -216,7 +216,8 @@ pub fn push_metric24_at(strip: &mut [u8], at: usize, id: u8, body: &[u8], p: usi
     requires { ⌜ o + length (now body) < 4294967296 ⌝ }
     ensures { λ r. ⌜ Wrote (now (strip .entry)) at (code (metric24At id (now (body .entry)) o p)) (now (strip .exit)) r ⌝ }
 {
-    push_u32(strip, at, id, p, 3, o, read_be_u24(body, p))
+    let metric = read_be_u24(body, p);
+    push_u32(strip, at, id, p, 3, o, metric)
 }
 
 // A number of 16 bits that is shown as one of 32.

@@ -12,7 +12,7 @@ same-length : tie.Need-same-length
 same-length c = search needs
 
 returns : tie.Need-returns
-returns c = rw (c .before .before .before .read-be-u24 .ensures) at (c .before .before .push-u32 .ensures)
+returns c = rw (c .before .before .before .before .read-be-u24 .ensures) at (c .before .before .push-u32 .ensures)
 
 pub push-metric24-at-spec : {M : Type 1} → statement M
 push-metric24-at-spec =
