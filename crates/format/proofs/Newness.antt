@@ -11,7 +11,8 @@ use lib.Dec.{ltb, eqb}
 use borrow.Author.Tests.{ltb-true, ltb-false, eqb-true, eqb-false, le-ltb}
 use Rattle.format.specs.Bytes.{be16At}
 use Rattle.format.specs.Header.{Header, Newness, newness, larger, aged, younger, signedRank, maxAge, maxAgeDiff}
-use Rattle.format.specs.Header.{Reading, readHeader, readNumber, newnessAt, newnessRead, newnessNumber, ReadRefusals, NewnessRefusals, isKnown, headerAt}
+use Rattle.format.specs.Header.{Reading, readHeader, newnessAt, newnessRead, isKnown, headerAt}
+use Rattle.format.specs.Refusals.{readNumber, newnessNumber, ReadRefusals, NewnessRefusals}
 use Rattle.format.specs.Header.Newness.{first, second, same, refused}
 use Rattle.format.specs.Header.Reading.{header}
 

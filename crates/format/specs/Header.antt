@@ -1,7 +1,5 @@
 -- The LSA header of 20 bytes, its entries in a strip, its reading from bytes, and which of two instances is newer.
-use Prim.Native.Nat.{ℕ, _+_, _%_, _<_}
-use mathlib.Core.Path.{_≡_}
-use mathlib.Core.Logic.{_↔_, _⊎_}
+use Prim.Native.Nat.{ℕ, _+_, _%_}
 use mathlib.Core.Bool.{Bool, true, false, cond}
 use mathlib.Core.List.{List, [], _∷_, _++_}
 use lib.ListN.{length, getD}
@@ -155,27 +153,3 @@ newnessRead (header x) (header y) = newness x y
 -- The same of two LSAs of one version, by their bytes.
 unfoldable pub newnessAt : (version : ℕ) → List ℕ → List ℕ → Newness
 newnessAt v x y = newnessRead (readHeader v x) (readHeader v y)
-
--- The number of a refusal, 0 where there is none.
-abbrev pub readNumber : Reading → ℕ
-readNumber (header h) = 0
-readNumber (refused n) = n
-
-abbrev pub newnessNumber : Newness → ℕ
-newnessNumber first = 0
-newnessNumber second = 0
-newnessNumber same = 0
-newnessNumber (refused n) = n
-
--- Each number of a reading is answered exactly when its condition holds and none before it does.
-pub record ReadRefusals (v : ℕ) (b : List ℕ) (number : ℕ) : Type 0 where
-  pub one : (number ≡ 1) ↔ ((v ≡ 2 → ⊥) × (v ≡ 3 → ⊥))
-  pub four : (number ≡ 4) ↔ (((v ≡ 2) ⊎ (v ≡ 3)) × (length b < 20))
-  pub zero : (number ≡ 0) ↔ (((v ≡ 2) ⊎ (v ≡ 3)) × (length b < 20 → ⊥))
-
--- The same of newness. The age is the first two bytes.
-pub record NewnessRefusals (v : ℕ) (x y : List ℕ) (number : ℕ) : Type 0 where
-  pub one : (number ≡ 1) ↔ ((v ≡ 2 → ⊥) × (v ≡ 3 → ⊥))
-  pub four : (number ≡ 4) ↔ (((v ≡ 2) ⊎ (v ≡ 3)) × ((length x < 20) ⊎ (length y < 20)))
-  pub eleven : (number ≡ 11) ↔ (((v ≡ 2) ⊎ (v ≡ 3)) × (length x < 20 → ⊥) × (length y < 20 → ⊥) × ((3600 < be16At x 0) ⊎ (3600 < be16At y 0)))
-  pub zero : (number ≡ 0) ↔ (((v ≡ 2) ⊎ (v ≡ 3)) × (length x < 20 → ⊥) × (length y < 20 → ⊥) × (3600 < be16At x 0 → ⊥) × (3600 < be16At y 0 → ⊥))

@@ -10,6 +10,10 @@ use Rattle.format.specs.Strip.Step.{entry, end, refused}
 use Rattle.format.specs.Prefix.{comparison}
 use Rattle.format.specs.Prefix.Comparison.{same, different, refused as incomparable}
 use Rattle.format.specs.Part.{partNumber, partPlace, partOf}
+use Rattle.format.specs.Bytes.{be16At}
+use Rattle.format.specs.Header.{Reading, Newness}
+use Rattle.format.specs.Header.Reading.{header, refused as not-read}
+use Rattle.format.specs.Header.Newness.{first, second, same as alike, refused as too-old}
 use Rattle.format.specs.Walks.{Answer}
 
 -- Each walk. 1: the version is neither 2 nor 3; 2: more than 65,535 bytes of data; 3: an offset above 4,294,901,760; 4: fewer
@@ -79,3 +83,27 @@ pub record Compares (l : ℕ) (a : List ℕ) (m : ℕ) (b : List ℕ) : Type 0 w
   pub are-same : (comparison l a m b ≡ same) ↔ ((l ≤ 128) × (m ≤ 128) × (l ≡ m) × (a ≡ b))
   pub are-different : (comparison l a m b ≡ different) ↔ ((l ≤ 128) × (m ≤ 128) × (l ≡ m → a ≡ b → ⊥))
   pub no-other : (n : ℕ) → comparison l a m b ≡ incomparable n → n ≡ 10
+
+-- The number of a header that is read by version and bytes, and of newness, 0 where there is no refusal.
+abbrev pub readNumber : Reading → ℕ
+readNumber (header h) = 0
+readNumber (not-read n) = n
+
+abbrev pub newnessNumber : Newness → ℕ
+newnessNumber first = 0
+newnessNumber second = 0
+newnessNumber alike = 0
+newnessNumber (too-old n) = n
+
+-- A header. 1: the version is neither 2 nor 3; 4: fewer than 20 bytes.
+pub record ReadRefusals (v : ℕ) (b : List ℕ) (number : ℕ) : Type 0 where
+  pub one : (number ≡ 1) ↔ NoVersion v
+  pub four : (number ≡ 4) ↔ (((v ≡ 2) ⊎ (v ≡ 3)) × (length b < 20))
+  pub zero : (number ≡ 0) ↔ (((v ≡ 2) ⊎ (v ≡ 3)) × (length b < 20 → ⊥))
+
+-- Newness of two such headers. 11: either age, the first two bytes, is above 3,600.
+pub record NewnessRefusals (v : ℕ) (x y : List ℕ) (number : ℕ) : Type 0 where
+  pub one : (number ≡ 1) ↔ NoVersion v
+  pub four : (number ≡ 4) ↔ (((v ≡ 2) ⊎ (v ≡ 3)) × ((length x < 20) ⊎ (length y < 20)))
+  pub eleven : (number ≡ 11) ↔ (((v ≡ 2) ⊎ (v ≡ 3)) × (length x < 20 → ⊥) × (length y < 20 → ⊥) × ((3600 < be16At x 0) ⊎ (3600 < be16At y 0)))
+  pub zero : (number ≡ 0) ↔ (((v ≡ 2) ⊎ (v ≡ 3)) × (length x < 20 → ⊥) × (length y < 20 → ⊥) × (3600 < be16At x 0 → ⊥) × (3600 < be16At y 0 → ⊥))
