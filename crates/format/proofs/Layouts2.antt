@@ -1,6 +1,6 @@
 -- One LSA of version 2 of each layout, whole, at the place 1,000: its bytes, and the entries that the reference pushes for them
--- (host/oracle/tests/proved.rs compares them). Each byte is one more than its place in the LSA, but for counts, flags, types and
--- lengths: so a value names the bytes that it is read from. The length that they declare is not their own: a single LSA is all the data
+-- (host/oracle/tests/proved.rs compares them). Each byte is one more than its place in the LSA, but for counts, flags, types,
+-- lengths and the first bit of some TOS: so a value names the bytes that it is read from. The length that they declare is not their own: a single LSA is all the data
 -- given.
 use Prim.Native.Nat.{ℕ}
 use mathlib.Core.Path.{_≡_, refl}
@@ -80,7 +80,7 @@ pub record Layouts2 : Type 0 where
       0x29 ∷ 0x2a ∷ 0x2b ∷ 0x2c ∷
       0x2d ∷ 0x02 ∷ 0x2f ∷ 0x30 ∷
       0x31 ∷ 0x32 ∷ 0x33 ∷ 0x34 ∷
-      0x35 ∷ 0x36 ∷ 0x37 ∷ 0x38 ∷
+      0xb5 ∷ 0x36 ∷ 0x37 ∷ 0x38 ∷
       0x39 ∷ 0x3a ∷ 0x3b ∷
       [])) 1000
       ≡ accepted (shown 1 (
@@ -100,7 +100,7 @@ pub record Layouts2 : Type 0 where
       u16 68 1046 1048 0x2f30 ∷
       opens 69 1048 1056 ∷
       opens 97 1048 1052 ∷ u8 81 1048 1049 0x31 ∷ u32 82 1050 1052 0x3334 ∷ closes ∷
-      opens 97 1052 1056 ∷ u8 81 1052 1053 0x35 ∷ u32 82 1054 1056 0x3738 ∷ closes ∷
+      opens 97 1052 1056 ∷ u8 81 1052 1053 0xb5 ∷ u32 82 1054 1056 0x3738 ∷ closes ∷
       closes ∷
       closes ∷
       closes ∷
@@ -123,7 +123,7 @@ pub record Layouts2 : Type 0 where
       0x15 ∷ 0x16 ∷ 0x17 ∷ 0x18 ∷
       0x19 ∷ 0x1a ∷ 0x1b ∷ 0x1c ∷
       0x1d ∷ 0x1e ∷ 0x1f ∷ 0x20 ∷
-      0x21 ∷ 0x22 ∷ 0x23 ∷ 0x24 ∷
+      0xa1 ∷ 0x22 ∷ 0x23 ∷ 0x24 ∷
       0x25 ∷
       [])) 1000
       ≡ accepted (shown 3 (
@@ -131,7 +131,7 @@ pub record Layouts2 : Type 0 where
       u32 19 1025 1028 0x1a1b1c ∷
       opens 20 1028 1036 ∷
       opens 97 1028 1032 ∷ u8 81 1028 1029 0x1d ∷ u32 82 1029 1032 0x1e1f20 ∷ closes ∷
-      opens 97 1032 1036 ∷ u8 81 1032 1033 0x21 ∷ u32 82 1033 1036 0x222324 ∷ closes ∷
+      opens 97 1032 1036 ∷ u8 81 1032 1033 0xa1 ∷ u32 82 1033 1036 0x222324 ∷ closes ∷
       closes ∷
       bytes 25 1036 1037 ∷
       [])) 1 1

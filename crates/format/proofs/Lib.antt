@@ -32,6 +32,7 @@ pub mod Refusals
 pub mod Steps
 pub mod LaidWalks
 pub mod ListRanges
+pub mod Least
 pub mod Part
 pub mod Program
 pub mod Input

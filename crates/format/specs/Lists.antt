@@ -1,15 +1,16 @@
--- What each LSA holds, by its type and the length of its body: which containers and kind 8 entries, and where its links and
--- its prefixes lie. The numbers are those of the requirements.
-use Prim.Native.Nat.{ℕ, _+_, _-_, _/_, _%_}
-use mathlib.Core.Bool.{Bool, cond}
+-- What each LSA holds, by its type and the length of its body: which containers and kind 8 entries, where its links and
+-- its prefixes lie, and when its body is decoded. The numbers are those of the requirements.
+use Prim.Native.Nat.{ℕ, _+_, _*_, _-_, _/_, _%_}
+use mathlib.Core.Bool.{Bool, true, cond}
 use mathlib.Core.List.{List, [], _∷_}
+use mathlib.Core.Option.{Option, none, some}
 use lib.ListN.{length, getD, drop}
 use lib.Dec.{ltb, eqb}
 use Rattle.format.specs.Bytes.{be16At, be32At}
 use Rattle.format.specs.Strip.{Entry}
 use Rattle.format.specs.Cut.{Span, cut, linkRule, prefixRule, fixedRule}
 use Rattle.format.specs.Ranges.{Range, placed}
-use Rattle.format.specs.Laid.{only}
+use Rattle.format.specs.Laid.{among, only}
 
 -- The ids of the containers in a body that is decoded from a least length on; below that it has none.
 abbrev pub from : (least n : ℕ) → List ℕ → List ℕ
@@ -72,3 +73,51 @@ prefixRanges d o =
     cond (eqb (be16At d 2 % 8192) 8) (listed 24 (drop 20 d) (o + 20) (cut prefixRule (drop 20 d) (be32At (drop 20 d) 20) 24))
     (cond (eqb (be16At d 2 % 8192) 9) (listed 12 (drop 20 d) (o + 20) (cut prefixRule (drop 20 d) (be16At (drop 20 d) 0) 12))
     [])
+
+-- The bytes that a body needs; none where its type has no layout. Version 2 goes by the LS type and the opaque type.
+abbrev pub least2 : (lsType opaqueType : ℕ) → Option ℕ
+least2 t u =
+    cond (eqb t 1) (some 4)
+    (cond (eqb t 2) (some 4)
+    (cond (eqb t 3) (some 8)
+    (cond (eqb t 4) (some 8)
+    (cond (eqb t 5) (some 16)
+    (cond (eqb t 7) (some 16)
+    (cond (among (9 ∷ 10 ∷ 11 ∷ []) t) (cond (among (1 ∷ 4 ∷ 7 ∷ 8 ∷ []) u) (some 0) none)
+    none))))))
+
+-- A fixed prefix of l bits needs whole words of 32 bits after the 8 bytes before it; above 128 bits there is no layout.
+abbrev pub withPrefix : (l more : ℕ) → Option ℕ
+withPrefix l more = cond (ltb 128 l) none (some (8 + 4 * ((l + 31) / 32) + more))
+
+-- What an external has after its prefix: 16 bytes if flag 0x02, 4 if 0x01, 4 if the referenced type is not zero.
+abbrev pub optionals : List ℕ → ℕ
+optionals b = cond (eqb (getD b 0 0 / 2 % 2) 1) 16 0 + cond (eqb (getD b 0 0 % 2) 1) 4 0 + cond (eqb (getD b 6 0 * 256 + getD b 7 0) 0) 0 4
+
+-- Version 3 goes by the function, and by the body where it says what it holds.
+abbrev pub least3 : (function : ℕ) → List ℕ → Option ℕ
+least3 f b =
+    cond (eqb f 1) (some 4)
+    (cond (eqb f 2) (some 4)
+    (cond (eqb f 3) (withPrefix (getD b 4 0) 0)
+    (cond (eqb f 4) (some 12)
+    (cond (eqb f 5) (withPrefix (getD b 4 0) (optionals b))
+    (cond (eqb f 7) (withPrefix (getD b 4 0) (optionals b))
+    (cond (eqb f 8) (some 24)
+    (cond (eqb f 9) (some 12)
+    (cond (eqb f 12) (some 0)
+    (cond (eqb f 33) (some 4)
+    (cond (eqb f 34) (some 4)
+    (cond (eqb f 35) (some 0)
+    (cond (eqb f 36) (some 0)
+    (cond (eqb f 37) (some 0)
+    (cond (eqb f 39) (some 0)
+    (cond (eqb f 40) (some 4)
+    (cond (eqb f 41) (some 12)
+    (cond (eqb f 42) (some 0)
+    none)))))))))))))))))
+
+-- Whether a body of n bytes is raw: it has no layout, or too few bytes.
+abbrev pub tooShort : Option ℕ → ℕ → Bool
+tooShort none n = true
+tooShort (some least) n = ltb n least
