@@ -1,7 +1,7 @@
--- One LSA of version 2 of each layout, whole, at the place 1,000: its bytes, and the entries that the reference pushes for them
--- (host/oracle/tests/proved.rs compares them). Each byte is one more than its place in the LSA, but for counts, flags, types,
--- lengths and the first bit of some TOS: so a value names the bytes that it is read from. The length that they declare is not their own: a single LSA is all the data
--- given.
+-- One LSA of version 2 of each layout, whole, at the place 1,000: its bytes, and the entries that the reference pushes for
+-- them (host/oracle/tests/proved.rs compares them). Each byte is one more than its place in the LSA, but for counts, flags,
+-- types, lengths and the first bit of some TOS: so a value names the bytes that it is read from. The length that they
+-- declare is not their own: a single LSA is all the data given.
 use Prim.Native.Nat.{ℕ}
 use mathlib.Core.Path.{_≡_, refl}
 use mathlib.Core.List.{List, [], _∷_, _++_, flatMap}
