@@ -9,7 +9,7 @@ use lib.Dec.{ltb, eqb}
 use Rattle.format.specs.Bytes.{be32At}
 use Rattle.format.specs.Strip.{Entry}
 use Rattle.format.specs.Strip.Entry.{opens, closes, u8, u16, u32, ip4, ip6, bytes}
-use Rattle.format.specs.Walks.{Outcome, Answer, walkOf, answerOf}
+use Rattle.format.specs.Walks.{Outcome, Answer, namedOf, answerOf}
 use Rattle.format.specs.Walks.Outcome.{refused, accepted}
 
 -- The most bytes of input, and the room of the program's strip buffer.
@@ -23,17 +23,16 @@ stripRoom = 65536
 abbrev pub countOf : List ℕ → ℕ
 countOf d = cond (ltb (length d) 4) 0 (be32At d 0)
 
--- The walk that the second byte names, at the offset 0.
+-- The walk that the second byte names, at the offset 0. 12: it names none.
 abbrev pub namedWalk : List ℕ → Outcome
-namedWalk input = walkOf (getD input 0 0) (getD input 1 0) (drop 2 input) (countOf (drop 2 input)) 0
+namedWalk input = namedOf (getD input 0 0) (getD input 1 0) (drop 2 input) (countOf (drop 2 input)) 0
 
--- Version, walk, data. 2: too much input; 4: no version or no walk; 12: no such walk; then the walk's own refusals.
+-- Version, walk, data. 2: too much input; 4: no version or no walk; then the refusals of the walk that is named.
 unfoldable pub programOf : List ℕ → Outcome
 programOf input =
     cond (ltb maxInput (length input)) (refused 2)
     (cond (ltb (length input) 2) (refused 4)
-    (cond (ltb 2 (getD input 1 0)) (refused 12)
-    (namedWalk input)))
+    (namedWalk input))
 
 -- A number in decimal. The first argument is one less than the most digits.
 unfoldable pub digits : ℕ → ℕ → List ℕ

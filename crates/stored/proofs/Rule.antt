@@ -10,7 +10,7 @@ use lib.Dec.{leb}
 use borrow.Author.Tests.{le-leb, lt-leb, leb-true}
 use Rattle.format.specs.Cut.{standing, fitting}
 use Rattle.format.proofs.Rules.{inside}
-use Rattle.stored.specs.Stored.{walkAt, roomAt, answerAt, callSize, isCall, callRule}
+use Rattle.stored.specs.Stored.{isWalk, walkAt, roomAt, answerAt, callSize, isCall, callRule}
 
 -- A call of n bytes stands at p.
 pub record Stands (most : ℕ) (b : List ℕ) (p n : ℕ) : Type 0 where
@@ -43,7 +43,7 @@ module _ (most : ℕ) (b : List ℕ) (p : ℕ) where
 
   roomy : isCall most b p ≡ true → roomAt b p ≤ most
   unfolding isCall
-  roomy e = go (leb (walkAt b p) 2) (leb (getD b (answerAt b p) 0) 5) e
+  roomy e = go (isWalk (walkAt b p)) (leb (getD b (answerAt b p) 0) 5) e
     where
       go : (s t : Bool) → cond s (cond t (leb (roomAt b p) most) false) false ≡ true → roomAt b p ≤ most
       go true true q = leb-true (roomAt b p) most q
