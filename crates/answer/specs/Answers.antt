@@ -1,6 +1,25 @@
--- The code's answer for that of the definitions, and what an answer of the code says in them.
+-- The code's walks and answers for those of the definitions, and what they say in them.
+use mathlib.Core.Option.{Option, none, some}
 use Rattle.format.specs.Walks as walks
 use Rattle.answer.specs.declared.Answer.{Answer}
+use Rattle.answer.specs.declared.Walk.{Walk}
+use Rattle.answer.specs.declared.Walk.the-variants as W
+use Rattle.answer.specs.declared.NamedWalk.{NamedWalk}
+use Rattle.answer.specs.declared.NamedWalk.the-variants as N
+
+abbrev pub walkAs : walks.Walk → Walk
+walkAs walks.Walk.headerList = W.LsaHeaders
+walkAs walks.Walk.update = W.LsuLsas
+walkAs walks.Walk.single = W.Lsa
+
+abbrev pub walkMeaning : Walk → walks.Walk
+walkMeaning W.LsaHeaders = walks.Walk.headerList
+walkMeaning W.LsuLsas = walks.Walk.update
+walkMeaning W.Lsa = walks.Walk.single
+
+abbrev pub namedWalkOf : Option walks.Walk → NamedWalk
+namedWalkOf none = N.Nothing
+namedWalkOf (some w) = N.Walk (walkAs w)
 
 -- A walk's answer: 0 or a refusal's number, the strip's length, records accepted, tail bytes.
 abbrev pub answered : walks.Answer → Answer

@@ -1,9 +1,34 @@
-// A walk's answer, and what every walk has: its refusals, and the ids of its containers and of unparsed bytes.
+// The walks by their numbers, a walk's answer, and what every walk has: its refusals, and the ids of its containers and of
+// unparsed bytes.
 ghost use mathlib.Core.Path.{_≡_};
 ghost use Prim.Native.Nat.{_<_};
 ghost use lib.ListN.{length};
-ghost use Rattle.format.specs.Walks.{isKnown, refusal, answer, unparsedId};
-ghost use Rattle.answer.specs.Answers.{answered};
+ghost use Rattle.format.specs.Walks.{walkNamed, isKnown, refusal, answer, unparsedId};
+ghost use Rattle.answer.specs.Answers.{answered, namedWalkOf};
+
+// The walks over a header list, a link-state update and a single LSA.
+pub enum Walk {
+    LsaHeaders,
+    LsuLsas,
+    Lsa,
+}
+
+// The walk that a number names, if it names one.
+pub enum NamedWalk {
+    Walk(Walk),
+    Nothing,
+}
+
+pub fn walk_named(number: u8) -> NamedWalk
+    ensures { λ r. ⌜ r ≡ namedWalkOf (walkNamed number) ⌝ }
+{
+    match number {
+        0 => NamedWalk::Walk(Walk::LsaHeaders),
+        1 => NamedWalk::Walk(Walk::LsuLsas),
+        2 => NamedWalk::Walk(Walk::Lsa),
+        _ => NamedWalk::Nothing,
+    }
+}
 
 // A walk's answer: 0 or the number of a refusal, the strip's length (the length needed where there is no room), how many
 // records it has, and how many bytes are left after them.

@@ -7,10 +7,11 @@ use mathlib.Core.List.{List, [], _∷_}
 use lib.ListN.{length}
 use lib.Dec.{ltb}
 use borrow.Author.Tests.{lt-ltb, le-ltb}
-use Rattle.format.specs.Walks.{headersOf, updateOf, lsaOf, walkOf}
+use Rattle.format.specs.Walks.{headersOf, updateOf, lsaOf, walkOf, namedOf}
 use Rattle.format.specs.Walks.Outcome.{refused}
 use Rattle.format.specs.Print.{programOf}
 use Rattle.format.proofs.Bytes.{reads32}
+use Rattle.format.proofs.Program.{walks-are}
 
 -- At most 2,050 bytes: version, walk, data. The walk 0 is a header list, 1 an update whose count is its first four bytes (0 if they are
 -- not there), 2 a single LSA; the offset is 0.
@@ -33,12 +34,12 @@ not-short : (d : List ℕ) → ltb (suc (suc (length d))) 2 ≡ false
 not-short d = le-ltb (suc (suc (length d))) 2 (omega arith)
 
 pub input-means : InputMeans
-unfolding programOf walkOf
+unfolding programOf walkOf namedOf
 input-means = record {
   too-much = λ input h. rw (lt-ltb 2050 (length input) h);
   no-version = refl;
   no-walk = λ v. refl;
-  no-such-walk = λ v w d h k. rw (not-long d h, not-short d, lt-ltb 2 w k);
+  no-such-walk = λ v w d h k. rw (not-long d h, not-short d) (walks-are v d _ 0 .3 w k);
   header-list = λ v d h. rw (not-long d h, not-short d);
   update = λ v a b c e d h.
       let x = a ∷ b ∷ c ∷ e ∷ d in

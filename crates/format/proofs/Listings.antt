@@ -12,7 +12,7 @@ use Rattle.format.specs.Header.{headerEntries2, headerEntries3}
 use Rattle.format.specs.Body.{listing, leftover, whole, attachedRouter, bodyEntries, bodyTail}
 use Rattle.format.specs.V2 as v2
 use Rattle.format.specs.V3 as v3
-use Rattle.format.specs.Walks.{answer, answerOf, unless, headersOf, updateOf, lsaOf, walkOf, outer, headerObject, lsaObject}
+use Rattle.format.specs.Walks.{answer, answerOf, unless, headersOf, updateOf, lsaOf, walkOf, namedOf, outer, headerObject, lsaObject}
 use Rattle.format.specs.Walks.Outcome.{accepted}
 use Rattle.format.specs.Print.{programOf, digits, hex, line, firstLine, printed}
 use Rattle.format.proofs.Text.{lines}
@@ -302,7 +302,7 @@ pub record Listings : Type 0 where
       [])
 
 pub listings : Listings
-unfolding printed firstLine line digits hex programOf walkOf headersOf updateOf lsaOf answerOf unless outer listing leftover headerObject lsaObject container encode code whole cut standing after
+unfolding printed firstLine line digits hex programOf walkOf namedOf headersOf updateOf lsaOf answerOf unless outer listing leftover headerObject lsaObject container encode code whole cut standing after
     headerEntries2 headerEntries3 attachedRouter octets address bodyEntries bodyTail v2.lsaEntries2 v2.lsaTail2 v2.body2 v2.opaqueLsa
     v3.lsaEntries3 v3.body3 v3.networkLsa3 v3.prefix v3.intraAreaPrefixLsa flatMap
 listings = record {

@@ -1,18 +1,34 @@
--- The program: when it refuses.
-use Prim.Native.Nat.{ℕ, _≤_}
+-- The program: what the numbers of the walks name, and when it refuses.
+use Prim.Native.Nat.{ℕ, _≤_, _<_}
 use native.Mathlib.Omega.{arith}
 use mathlib.Core.Path.{_≡_, refl}
 use mathlib.Core.Logic.{inl, inr, ⊎-elim}
 use mathlib.Core.Bool.{Bool, true, false, cond}
 use mathlib.Core.List.{List}
+use mathlib.Core.Option.{none}
 use lib.ListN.{length, getD, drop, length-drop}
 use lib.Dec.{eqb, ltb}
-use borrow.Author.Tests.{le-ltb, ltb-true, ltb-false}
+use borrow.Author.Tests.{le-ltb, ltb-true, ltb-false, eqb-false, ne-eqb}
 use Rattle.format.specs.Strip.{Entry, encode}
-use Rattle.format.specs.Walks.{answerOf, unless, refusal, isKnown, maxData, maxOffset, headersOf, updateOf, lsaOf, walkOf}
+use Rattle.format.specs.Walks.{Walk, answerOf, unless, refusal, isKnown, maxData, maxOffset, headersOf, updateOf, lsaOf, walkNamed, walkOf, namedOf}
+use Rattle.format.specs.Walks.Walk.{headerList, update, single}
 use Rattle.format.specs.Walks.Outcome.{refused, accepted}
-use Rattle.format.specs.Print.{maxInput, stripRoom, countOf, namedWalk, programOf, ProgramRefusals}
+use Rattle.format.specs.Print.{maxInput, stripRoom, countOf, namedWalk, programOf}
+use Rattle.format.specs.Refusals.{ProgramRefusals}
 use Rattle.format.proofs.Refusals.{number-is}
+
+-- no number above 2 names a walk
+no-walk : (n : ℕ) → 2 < n → walkNamed n ≡ none
+no-walk n h = rw (ne-eqb n 0 (λ e. omega arith), ne-eqb n 1 (λ e. omega arith), ne-eqb n 2 (λ e. omega arith))
+
+-- What the numbers name: 0 a header list, 1 an update, 2 a single LSA; any other is refused.
+pub walks-are : (v : ℕ) (d : List ℕ) (count o : ℕ)
+    → (namedOf v 0 d count o ≡ headersOf v d o)
+    × (namedOf v 1 d count o ≡ updateOf v d count o)
+    × (namedOf v 2 d count o ≡ lsaOf v d o)
+    × ((n : ℕ) → 2 < n → namedOf v n d count o ≡ refused 12)
+unfolding namedOf walkOf
+walks-are v d count o = (refl, refl, refl, λ n h. rw (namedOf, no-walk n h))
 
 -- A walk over no more data than it may have does not answer 2, and no walk answers more than 5.
 numbers : (v : ℕ) (d : List ℕ) (o least : ℕ) (es : List Entry) (r t room : ℕ) → length d ≤ maxData
@@ -28,16 +44,27 @@ numbers v d o least es r t room h =
     go true false false true = (λ z. omega arith, omega arith)
     go true false false false = (λ z. omega arith, omega arith)
 
-walk-numbers : (v w : ℕ) (d : List ℕ) (n o : ℕ) → length d ≤ maxData
+walk-numbers : (v : ℕ) (w : Walk) (d : List ℕ) (n o : ℕ) → length d ≤ maxData
     → (answerOf (walkOf v w d n o) stripRoom .number ≡ 2 → ⊥) × (answerOf (walkOf v w d n o) stripRoom .number ≤ 5)
 unfolding walkOf headersOf updateOf lsaOf
-walk-numbers v w d n o h = go (eqb w 0) (eqb w 1)
+walk-numbers v headerList d n o h = numbers v d o 0 _ _ _ stripRoom h
+walk-numbers v update d n o h = numbers v d o 4 _ _ _ stripRoom h
+walk-numbers v single d n o h = numbers v d o 20 _ _ _ stripRoom h
+
+named-numbers : (v w : ℕ) (d : List ℕ) (n o : ℕ) → w ≤ 2 → length d ≤ maxData
+    → (answerOf (namedOf v w d n o) stripRoom .number ≡ 2 → ⊥) × (answerOf (namedOf v w d n o) stripRoom .number ≤ 5)
+unfolding namedOf
+named-numbers v w d n o k h = go (eqb w 0) (eqb w 1) (eqb w 2) refl refl refl
   where
-    go : (s t : Bool) → (answerOf (cond s (headersOf v d o) (cond t (updateOf v d n o) (lsaOf v d o))) stripRoom .number ≡ 2 → ⊥)
-        × (answerOf (cond s (headersOf v d o) (cond t (updateOf v d n o) (lsaOf v d o))) stripRoom .number ≤ 5)
-    go true t = numbers v d o 0 _ _ _ stripRoom h
-    go false true = numbers v d o 4 _ _ _ stripRoom h
-    go false false = numbers v d o 20 _ _ _ stripRoom h
+    few : (w ≡ 0 → ⊥) → (w ≡ 1 → ⊥) → (w ≡ 2 → ⊥) → ⊥
+    few e f g = omega arith
+
+    go : (r s t : Bool) → eqb w 0 ≡ r → eqb w 1 ≡ s → eqb w 2 ≡ t
+        → (answerOf (namedOf v w d n o) stripRoom .number ≡ 2 → ⊥) × (answerOf (namedOf v w d n o) stripRoom .number ≤ 5)
+    go true s t e f g = rw (namedOf, e) (walk-numbers v headerList d n o h)
+    go false true t e f g = rw (namedOf, e, f) (walk-numbers v update d n o h)
+    go false false true e f g = rw (namedOf, e, f, g) (walk-numbers v single d n o h)
+    go false false false e f g = absurd (few (eqb-false w 0 e) (eqb-false w 1 f) (eqb-false w 2 g))
 
 -- The tests of the program, in their order.
 pub program-refusals : (input : List ℕ) → ProgramRefusals input (answerOf (programOf input) 65536 .number)
@@ -45,9 +72,11 @@ unfolding programOf answerOf
 program-refusals input = first (ltb maxInput (length input)) refl
   where
     third : (t : Bool) → ltb 2 (getD input 1 0) ≡ t → length input ≤ maxInput → 2 ≤ length input
-        → ProgramRefusals input (answerOf (cond t (refused 12) (namedWalk input)) stripRoom .number)
+        → ProgramRefusals input (answerOf (namedWalk input) stripRoom .number)
     third true e l m =
-        let h = ltb-true 2 (getD input 1 0) e in record {
+        let h = ltb-true 2 (getD input 1 0) e in
+        rw (walks-are (getD input 0 0) (drop 2 input) (countOf (drop 2 input)) 0 .3 (getD input 1 0) h)
+        record {
           two = (λ z. absurd (omega arith), λ z. absurd (omega arith));
           four = (λ z. absurd (omega arith), λ p. absurd (⊎-elim (λ s. omega arith) (λ q. q .1 h) (p .1)));
           twelve = (λ z. (λ a. omega arith, λ a. omega arith, h), λ p. refl);
@@ -56,7 +85,7 @@ program-refusals input = first (ltb maxInput (length input)) refl
     third false e l m =
         let h = ltb-false 2 (getD input 1 0) e in
         let d = length-drop 2 input in
-        let n = walk-numbers (getD input 0 0) (getD input 1 0) (drop 2 input) (countOf (drop 2 input)) 0 (omega arith) in record {
+        let n = named-numbers (getD input 0 0) (getD input 1 0) (drop 2 input) (countOf (drop 2 input)) 0 h (omega arith) in record {
           two = (λ z. absurd (n .0 z), λ z. absurd (omega arith));
           four = (λ z. (λ a. omega arith, inr (λ a. omega arith, λ a. omega arith, z)), λ p. ⊎-elim (λ s. absurd (omega arith)) (λ q. q .2) (p .1));
           twelve = (λ z. absurd (let k = n .1 in omega arith), λ p. absurd (let k = p .2 in omega arith));
@@ -64,7 +93,7 @@ program-refusals input = first (ltb maxInput (length input)) refl
         }
 
     second : (t : Bool) → ltb (length input) 2 ≡ t → length input ≤ maxInput
-        → ProgramRefusals input (answerOf (cond t (refused 4) (cond (ltb 2 (getD input 1 0)) (refused 12) (namedWalk input))) stripRoom .number)
+        → ProgramRefusals input (answerOf (cond t (refused 4) (namedWalk input)) stripRoom .number)
     second true e l =
         let h = ltb-true (length input) 2 e in record {
           two = (λ z. absurd (omega arith), λ z. absurd (omega arith));
@@ -75,7 +104,7 @@ program-refusals input = first (ltb maxInput (length input)) refl
     second false e l = third (ltb 2 (getD input 1 0)) refl l (ltb-false (length input) 2 e)
 
     first : (t : Bool) → ltb maxInput (length input) ≡ t
-        → ProgramRefusals input (answerOf (cond t (refused 2) (cond (ltb (length input) 2) (refused 4) (cond (ltb 2 (getD input 1 0)) (refused 12) (namedWalk input)))) stripRoom .number)
+        → ProgramRefusals input (answerOf (cond t (refused 2) (cond (ltb (length input) 2) (refused 4) (namedWalk input))) stripRoom .number)
     first true e =
         let h = ltb-true maxInput (length input) e in record {
           two = (λ z. h, λ p. refl);

@@ -4,19 +4,20 @@ pub mod Strip
 pub mod Wrote
 pub mod Prefix
 pub mod Cut
-pub mod CutInto
 pub mod Header
 pub mod Body
 pub mod V2
 pub mod V3
 pub mod Walks
+pub mod Part
+pub mod Print
+pub mod Pieces
+-- And what is claimed of it, in the requirements' words and numbers.
+pub mod CutInto
 pub mod Ranges
 pub mod Laid
 pub mod Lists
 pub mod Shown
-pub mod Part
 pub mod Refusals
 pub mod Newer
 pub mod Host
-pub mod Print
-pub mod Pieces

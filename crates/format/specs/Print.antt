@@ -1,7 +1,5 @@
 -- The program: what it makes of its input, and the text that it prints. Text is a list of ASCII codes.
-use Prim.Native.Nat.{ℕ, zero, suc, _+_, _/_, _%_, _<_}
-use mathlib.Core.Path.{_≡_}
-use mathlib.Core.Logic.{_↔_, _⊎_}
+use Prim.Native.Nat.{ℕ, zero, suc, _+_, _/_, _%_}
 use mathlib.Core.Bool.{cond}
 use mathlib.Core.List.{List, [], _∷_, _++_, flatMap}
 use lib.ListN.{length, getD, drop}
@@ -9,7 +7,7 @@ use lib.Dec.{ltb, eqb}
 use Rattle.format.specs.Bytes.{be32At}
 use Rattle.format.specs.Strip.{Entry}
 use Rattle.format.specs.Strip.Entry.{opens, closes, u8, u16, u32, ip4, ip6, bytes}
-use Rattle.format.specs.Walks.{Outcome, Answer, walkOf, answerOf, firstLsa}
+use Rattle.format.specs.Walks.{Outcome, Answer, namedOf, answerOf, firstLsa}
 use Rattle.format.specs.Walks.Outcome.{refused, accepted}
 
 -- The most bytes of input, and the room of the program's strip buffer.
@@ -23,17 +21,16 @@ stripRoom = 65536
 abbrev pub countOf : List ℕ → ℕ
 countOf d = cond (ltb (length d) firstLsa) 0 (be32At d 0)
 
--- The walk that the second byte names, at the offset 0.
+-- The walk that the second byte names, at the offset 0. 12: it names none.
 abbrev pub namedWalk : List ℕ → Outcome
-namedWalk input = walkOf (getD input 0 0) (getD input 1 0) (drop 2 input) (countOf (drop 2 input)) 0
+namedWalk input = namedOf (getD input 0 0) (getD input 1 0) (drop 2 input) (countOf (drop 2 input)) 0
 
--- Version, walk, data. 2: too much input; 4: no version or no walk; 12: no such walk; then the walk's own refusals.
+-- Version, walk, data. 2: too much input; 4: no version or no walk; then the refusals of the walk that is named.
 unfoldable pub programOf : List ℕ → Outcome
 programOf input =
     cond (ltb maxInput (length input)) (refused 2)
     (cond (ltb (length input) 2) (refused 4)
-    (cond (ltb 2 (getD input 1 0)) (refused 12)
-    (namedWalk input)))
+    (namedWalk input))
 
 -- A number in decimal. The first argument is one less than the most digits.
 unfoldable pub digits : ℕ → ℕ → List ℕ
@@ -134,24 +131,3 @@ shownOf (accepted es r t) room = cond (eqb (answerOf (accepted es r t) room .num
 -- All that the program prints.
 unfoldable pub printed : List ℕ → List ℕ
 printed input = firstLine (answerOf (programOf input) stripRoom) ++ flatMap line (shownOf (programOf input) stripRoom)
-
--- The number of the walk that the input names.
-abbrev pub walkNumber : List ℕ → ℕ
-walkNumber input = answerOf (namedWalk input) 65536 .number
-
--- The conditions of the program's own refusals, in their order.
-abbrev pub TooLong : List ℕ → Type 0
-TooLong input = 2050 < length input
-
-abbrev pub TooShort : List ℕ → Type 0
-TooShort input = length input < 2
-
-abbrev pub NoWalk : List ℕ → Type 0
-NoWalk input = 2 < getD input 1 0
-
--- Each is answered exactly when its condition holds and none before it does; then come the walk's.
-pub record ProgramRefusals (input : List ℕ) (number : ℕ) : Type 0 where
-  pub two : (number ≡ 2) ↔ TooLong input
-  pub four : (number ≡ 4) ↔ ((TooLong input → ⊥) × (TooShort input ⊎ ((TooShort input → ⊥) × (NoWalk input → ⊥) × (walkNumber input ≡ 4))))
-  pub twelve : (number ≡ 12) ↔ ((TooLong input → ⊥) × (TooShort input → ⊥) × NoWalk input)
-  pub walks : (TooLong input → ⊥) → (TooShort input → ⊥) → (NoWalk input → ⊥) → number ≡ walkNumber input

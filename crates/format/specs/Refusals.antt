@@ -14,7 +14,8 @@ use Rattle.format.specs.Bytes.{be16At}
 use Rattle.format.specs.Header.{Reading, Newness}
 use Rattle.format.specs.Header.Reading.{header, refused as not-read}
 use Rattle.format.specs.Header.Newness.{first, second, same as alike, refused as too-old}
-use Rattle.format.specs.Walks.{Answer}
+use Rattle.format.specs.Walks.{Answer, answerOf}
+use Rattle.format.specs.Print.{namedWalk}
 
 -- Each walk. 1: the version is neither 2 nor 3; 2: more than 65,535 bytes of data; 3: an offset above 4,294,901,760; 4: fewer
 -- bytes than the walk's least.
@@ -107,3 +108,25 @@ pub record NewnessRefusals (v : ℕ) (x y : List ℕ) (number : ℕ) : Type 0 wh
   pub four : (number ≡ 4) ↔ (((v ≡ 2) ⊎ (v ≡ 3)) × ((length x < 20) ⊎ (length y < 20)))
   pub eleven : (number ≡ 11) ↔ (((v ≡ 2) ⊎ (v ≡ 3)) × (length x < 20 → ⊥) × (length y < 20 → ⊥) × ((3600 < be16At x 0) ⊎ (3600 < be16At y 0)))
   pub zero : (number ≡ 0) ↔ (((v ≡ 2) ⊎ (v ≡ 3)) × (length x < 20 → ⊥) × (length y < 20 → ⊥) × (3600 < be16At x 0 → ⊥) × (3600 < be16At y 0 → ⊥))
+
+-- The program. 2: more than 2,050 bytes of input; 4: fewer than two; 12: the second byte is above 2; then the number of the walk that
+-- is named, whose strip buffer has 65,536 bytes.
+abbrev pub walkNumber : List ℕ → ℕ
+walkNumber input = answerOf (namedWalk input) 65536 .number
+
+-- The conditions of the program's own refusals, in their order.
+abbrev pub TooLong : List ℕ → Type 0
+TooLong input = 2050 < length input
+
+abbrev pub TooShort : List ℕ → Type 0
+TooShort input = length input < 2
+
+abbrev pub NoWalk : List ℕ → Type 0
+NoWalk input = 2 < getD input 1 0
+
+-- Each is answered exactly when its condition holds and none before it does; then come the walk's.
+pub record ProgramRefusals (input : List ℕ) (number : ℕ) : Type 0 where
+  pub two : (number ≡ 2) ↔ TooLong input
+  pub four : (number ≡ 4) ↔ ((TooLong input → ⊥) × (TooShort input ⊎ ((TooShort input → ⊥) × (NoWalk input → ⊥) × (walkNumber input ≡ 4))))
+  pub twelve : (number ≡ 12) ↔ ((TooLong input → ⊥) × (TooShort input → ⊥) × NoWalk input)
+  pub walks : (TooLong input → ⊥) → (TooShort input → ⊥) → (NoWalk input → ⊥) → number ≡ walkNumber input

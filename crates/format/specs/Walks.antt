@@ -2,6 +2,7 @@
 use Prim.Native.Nat.{ℕ, _+_, _-_, _*_}
 use mathlib.Core.Bool.{cond}
 use mathlib.Core.List.{List, _++_}
+use mathlib.Core.Option.{Option, none, some}
 use lib.ListN.{length}
 use lib.Seq.{sets}
 use lib.Dec.{ltb, eqb}
@@ -38,14 +39,15 @@ lsaObject v d o s = container 113 (o + s .at) (o + s .at + s .len) (lsaEntries v
 unfoldable pub outer : ℕ → (Span → List Entry) → List ℕ → ℕ → ℕ → List Span → List Entry
 outer v f d o p ss = listing 114 f o p ss ++ leftover (unparsedId v) d o (after p ss)
 
--- The headers of a list, and the LSAs of an update under its count.
+-- The headers of a list.
 abbrev pub headers : List ℕ → List Span
 headers d = whole headerSize d 0
 
--- The first LSA follows the number of LSAs (RFC 2328 A.3.5).
+-- The first LSA of an update follows the number of LSAs (RFC 2328 A.3.5).
 abbrev pub firstLsa : ℕ
 firstLsa = 4
 
+-- The LSAs of an update, under its count.
 abbrev pub lsas : List ℕ → ℕ → List Span
 lsas d count = cut recordRule d count firstLsa
 
@@ -84,9 +86,24 @@ updateOf v d count o = unless (refusal v d o firstLsa) (accepted (outer v (lsaOb
 unfoldable pub lsaOf : ℕ → List ℕ → ℕ → Outcome
 lsaOf v d o = unless (refusal v d o headerSize) (accepted (lsaEntries v d o) 1 (lsaTail v d))
 
--- The walk by its number: 0 headers, 1 update, 2 single LSA. The count is an update's alone.
-unfoldable pub walkOf : (version walk : ℕ) → List ℕ → (count offset : ℕ) → Outcome
-walkOf v w d count o = cond (eqb w 0) (headersOf v d o) (cond (eqb w 1) (updateOf v d count o) (lsaOf v d o))
+-- The walks, and the numbers that name them.
+pub data Walk : Type 0 where
+  headerList : Walk
+  update : Walk
+  single : Walk
+
+abbrev pub walkNamed : ℕ → Option Walk
+walkNamed n = cond (eqb n 0) (some headerList) (cond (eqb n 1) (some update) (cond (eqb n 2) (some single) none))
+
+-- The count is an update's alone.
+unfoldable pub walkOf : (version : ℕ) → Walk → List ℕ → (count offset : ℕ) → Outcome
+walkOf v headerList d count o = headersOf v d o
+walkOf v update d count o = updateOf v d count o
+walkOf v single d count o = lsaOf v d o
+
+-- The walk that a number names. 12: it names none.
+unfoldable pub namedOf : (version walk : ℕ) → List ℕ → (count offset : ℕ) → Outcome
+namedOf v n d count o = elim (walkNamed n) [ none ↦ refused 12 | some w ↦ walkOf v w d count o ]
 
 -- A walk's answer.
 pub record Answer : Type 0 where

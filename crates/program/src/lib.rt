@@ -7,18 +7,16 @@ ghost use Rattle.format.specs.Print.{countOf, programOf};
 ghost use Rattle.answer.specs.Answers.{answered};
 use common::Answer;
 use common::refused;
-use common::walk;
+use common::walk_by_number;
 use util::read_be_u32;
 
 // The most bytes of input.
 pub const MAX_INPUT: usize = 2050;
 
-// The program's refusals before those of the walk.
+// The program's refusals before those of the walk that is named.
 const TOO_MUCH: u8 = 2;
 
 const TOO_LITTLE: u8 = 4;
-
-const NO_WALK: u8 = 12;
 
 pub fn run(input: &[u8], strip: &mut [u8]) -> Answer
     ensures { λ r. ⌜ r ≡ answered (answerOf (programOf (now (input .entry))) (length (now (strip .entry)))) ⌝ }
@@ -31,11 +29,8 @@ pub fn run(input: &[u8], strip: &mut [u8]) -> Answer
     if input.len() < 2 {
         return refused(TOO_LITTLE);
     }
-    if 2 < input[1] {
-        return refused(NO_WALK);
-    }
     let data = &input[2..];
-    walk(input[0], input[1], data, count_of(data), 0, strip)
+    walk_by_number(input[0], input[1], data, count_of(data), 0, strip)
 }
 
 // An update's count: its first four bytes.

@@ -5,6 +5,8 @@ ghost use Prim.Native.Nat.{_+_, _≤_};
 ghost use lib.ListN.{length};
 ghost use Rattle.stored.specs.Stored.{callRule, callSize, isCall, isOf, keptAt, sizeAt};
 ghost use Rattle.fit.specs.Answers.{fitOf};
+use answer::NamedWalk;
+use answer::walk_named;
 use fit::Fit;
 use util::read_be_u32;
 
@@ -13,8 +15,7 @@ pub const CALL: usize = 22;
 
 pub const ANSWER: usize = 13;
 
-const WALKS: u8 = 2;
-
+// The largest number of a walk's refusal.
 const NUMBERS: u8 = 5;
 
 pub fn call_fits(file: &[u8], pos: usize, most: usize) -> Fit
@@ -57,9 +58,9 @@ fn is_call(file: &[u8], pos: usize, size: usize, most: usize) -> bool
     requires { ⌜ size ≡ sizeAt (now file) pos ⌝ }
     ensures { λ r. ⌜ r ≡ isCall most (now (file .entry)) pos ⌝ }
 {
-    if WALKS < file[pos + 1] {
+    let NamedWalk::Walk(_) = walk_named(file[pos + 1]) else {
         return false;
-    }
+    };
     if NUMBERS < file[pos + CALL + size] {
         return false;
     }
