@@ -1,6 +1,6 @@
 -- How long the program's text is at most: a strip of 65,536 bytes has no more entries than that, and no line has more
 -- than 160 bytes.
-use Prim.Native.Nat.{ℕ, _+_, _*_, _≤_}
+use Prim.Native.Nat.{ℕ, _*_, _≤_}
 use native.Mathlib.Omega.{arith}
 use mathlib.Core.Path.{_≡_, refl}
 use mathlib.Core.Bool.{Bool, true, false}
@@ -11,7 +11,7 @@ use borrow.Author.Tests.{ltb-false}
 use Rattle.format.specs.Strip.{Entry, encode}
 use Rattle.format.specs.Walks.{Outcome, answerOf}
 use Rattle.format.specs.Walks.Outcome.{refused, accepted}
-use Rattle.format.specs.Print.{programOf, line, firstLine, shownOf, printed}
+use Rattle.format.specs.Print.{programOf, line, shownOf, printed}
 use Rattle.format.proofs.Read.{longer}
 use Rattle.print.proofs.Room.{line-fits, first-fits}
 

@@ -206,7 +206,8 @@ refused-alone input before room h (_ ∷ ts) (row r) =
 
 -- A refusal's line is all of the text: `refused`, the number, and the length needed or 0.
 pub refused-text : (input : List ℕ) → (answerOf (programOf input) 65536 .number ≡ 0 → ⊥)
-    → printed input ≡ (114 ∷ 101 ∷ 102 ∷ 117 ∷ 115 ∷ 101 ∷ 100 ∷ []) ++ (spaced (answerOf (programOf input) 65536 .number) ++ (spaced (answerOf (programOf input) 65536 .size) ++ (10 ∷ [])))
+    → printed input ≡ (114 ∷ 101 ∷ 102 ∷ 117 ∷ 115 ∷ 101 ∷ 100 ∷ [])
+    ++ (spaced (answerOf (programOf input) 65536 .number) ++ (spaced (answerOf (programOf input) 65536 .size) ++ (10 ∷ [])))
 unfolding printed firstLine flatMap
 refused-text input h =
     ap (λ (es : List Entry). firstLine (answerOf (programOf input) 65536) ++ flatMap line es) (none-shown (programOf input) h)

@@ -19,15 +19,16 @@ pub record Lines : Type 0 where
 abbrev pub lines : List ℕ → ℕ → Lines
 lines t q = record { text = t; next = q }
 
-abbrev pub after : List ℕ → Lines → Lines
-after t l = lines (t ++ l .text) (l .next)
+-- A text and the lines that follow it.
+abbrev pub followedBy : List ℕ → Lines → Lines
+followedBy t l = lines (t ++ l .text) (l .next)
 
 -- The lines of the entries from a place on: one more while the room of any line is left and a step gives an entry. The
 -- first argument bounds the number of steps.
 unfoldable pub linesFrom : ℕ → (room : ℕ) → List ℕ → (place : ℕ) → Lines
 linesFrom zero room s p = lines [] p
 linesFrom (suc k) room s p = cond (ltb room lineRoom) (lines [] p) (elim (stepAt s p) [
-  | entry x q ↦ after (line x) (linesFrom k (room - length (line x)) s q)
+  | entry x q ↦ followedBy (line x) (linesFrom k (room - length (line x)) s q)
   | end ↦ lines [] p
   | refused n ↦ lines [] p
 ])

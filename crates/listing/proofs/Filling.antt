@@ -12,7 +12,7 @@ use Rattle.format.specs.Strip.{Entry, Step, stepAt}
 use Rattle.format.specs.Strip.Step.{entry, end, refused}
 use Rattle.format.specs.Wrote.{Wrote}
 use Rattle.format.specs.Print.{line, lineRoom}
-use Rattle.format.specs.Pieces.{lines, after, linesFrom, linesAt}
+use Rattle.format.specs.Pieces.{lines, followedBy, linesFrom, linesAt}
 use Rattle.format.proofs.Wrote.{then, nothing, kept, lent, lent-room}
 use Rattle.format.proofs.Pieces.{forward}
 use Rattle.print.specs.Text.{fitting}
@@ -20,7 +20,7 @@ use Rattle.print.proofs.Room.{line-fits}
 
 -- What the definition says of a line more, of too little room, and of a step that gives no entry.
 from-entry : (k room : ℕ) (s : List ℕ) (p : ℕ) (x : Entry) (q : ℕ) → 160 ≤ room → stepAt s p ≡ entry x q → length s < k + p
-    → linesFrom k room s p ≡ after (line x) (linesFrom (k - 1) (room - length (line x)) s q)
+    → linesFrom k room s p ≡ followedBy (line x) (linesFrom (k - 1) (room - length (line x)) s q)
 unfolding linesFrom
 from-entry zero room s p x q m e h = let g = forward s p x q e in absurd (omega arith)
 from-entry (suc k) room s p x q m e h =
@@ -38,7 +38,7 @@ from-ended zero room s p n = refl
 from-ended (suc k) room s p n = go (ltb room lineRoom) (stepAt s p) refl
   where
     go : (b : Bool) (t : Step) → stepAt s p ≡ t → cond b (lines [] p) (elim t [
-      | entry x q ↦ after (line x) (linesFrom k (room - length (line x)) s q)
+      | entry x q ↦ followedBy (line x) (linesFrom k (room - length (line x)) s q)
       | end ↦ lines [] p
       | refused n ↦ lines [] p
     ]) ≡ lines [] p
@@ -66,7 +66,7 @@ pub record Filling (out₀ strip : List ℕ) (place : ℕ) (out : List ℕ) (siz
   pub fuel : ℕ
   pub done : List ℕ
   pub wrote : Wrote out₀ 0 done out size
-  pub rest : linesAt (length out₀) strip place ≡ after done (linesFrom fuel (length out₀ - size) strip next)
+  pub rest : linesAt (length out₀) strip place ≡ followedBy done (linesFrom fuel (length out₀ - size) strip next)
   pub enough : length strip < fuel + next
   pub inside : size ≤ length out
 

@@ -16,7 +16,9 @@ returns c = rw (ne-eqb (c .before .before .before .args .answer .number) 0 (λ z
 
 returns-2 : tie.Need-returns-2
 unfolding shownPart
-returns-2 c = rw (eq-eqb (c .before .before .before .args .answer .number) 0 (omega arith)) (sym (take-all (c .before .before .before .args .answer .length) (c .before .before .before .args .strip .now) (omega arith)))
+returns-2 c =
+    let s = c .before .before .before .args in
+    rw (eq-eqb (s .answer .number) 0 (omega arith)) (sym (take-all (s .answer .length) (s .strip .now) (omega arith)))
 
 slice-aggregate-result-2 : tie.Need-slice-aggregate-result-2
 slice-aggregate-result-2 c = sym (length-take-le _ _ (omega arith))
