@@ -1,6 +1,6 @@
 -- When an entry stands, both ways, for each of the three lists in its own numbers; and that each list has exactly one cut
 -- in the words of demand 3, which is the one that `cut` gives.
-use Prim.Native.Nat.{ℕ, zero, suc, _+_, _*_, _-_, _/_, _%_, _≤_, _<_}
+use Prim.Native.Nat.{ℕ, _+_, _*_, _-_, _/_, _%_, _≤_, _<_}
 use native.Mathlib.Omega.{arith}
 use mathlib.Core.Path.{_≡_, refl, sym, ap, subst, _∙_}
 use mathlib.Core.Logic.{_↔_, ⊎-elim}
@@ -18,7 +18,7 @@ use Rattle.format.specs.Cut.Stands.{done as no-more, next as one-more}
 use Rattle.format.specs.CutInto.{FixedAt, RecordAt, LinkAt, PrefixAt, EndToEnd, CutInto}
 use Rattle.format.specs.CutInto.EndToEnd.{done, next}
 use Rattle.format.proofs.Rules.{inside}
-use Rattle.format.proofs.Unique.{cut-none, cut-some, is-cut, only}
+use Rattle.format.proofs.Unique.{is-cut, only}
 
 -- The converse of `inside`.
 stands-where : (least : ℕ) (declared : Rule) (b : List ℕ) (p n : ℕ) → declared b p ≡ some n → least ≤ n → p + n ≤ length b → standing least declared b p ≡ some n
@@ -33,9 +33,12 @@ declaredRecord b p = some (be16At b (p + 18))
 
 pub record-stands : (b : List ℕ) (p n : ℕ) → (recordRule b p ≡ some n) ↔ RecordAt b p n
 record-stands b p n = (
-  λ e. let i = inside 20 declaredRecord b p n e in record { declared = sym (some-is (i .length-declared)) ∙ ap (λ (x : ℕ). getD b (p + 18) 0 * 256 + getD b x 0) (omega arith); least = i .enough; inside = i .within },
-  λ h. stands-where 20 declaredRecord b p n (ap some (sym (h .declared ∙ ap (λ (x : ℕ). getD b (p + 18) 0 * 256 + getD b x 0) (omega arith)))) (h .least) (h .inside),
+  λ e. let i = inside 20 declaredRecord b p n e in record { declared = sym (some-is (i .length-declared)) ∙ places; least = i .enough; inside = i .within },
+  λ h. stands-where 20 declaredRecord b p n (ap some (places ∙ sym (h .declared))) (h .least) (h .inside),
 )
+  where
+    places : be16At b (p + 18) ≡ getD b (p + 18) 0 * 256 + getD b (p + 19) 0
+    places = let q : p + 18 + 1 ≡ p + 19 = omega arith in rw q
 
 abbrev declaredFixed : ℕ → Rule
 declaredFixed n b p = some n
@@ -82,16 +85,6 @@ prefix-stands b p n = (
         let w : m ≡ n - 4 = omega arith in
         record { most = o .0; least = omega arith; words = rw w at (o .1); enough = rw w at (o .2); fewest = rw w at (o .3); inside = k }
 
--- A cut that begins in the body ends in it.
-pub cut-ends : (r : Rule) (b : List ℕ) → ((p n : ℕ) → r b p ≡ some n → p + n ≤ length b) → (count p : ℕ) → p ≤ length b → after p (cut r b count p) ≤ length b
-unfolding cut after
-cut-ends r b h zero p l = l
-cut-ends r b h (suc k) p l = go (r b p) refl (cut-ends r b h k)
-  where
-    go : (x : Option ℕ) → r b p ≡ x → ((q : ℕ) → q ≤ length b → after q (cut r b k q) ≤ length b) → after p (cut r b (suc k) p) ≤ length b
-    go none e ih = rw (cut-none r b (suc k) p e) l
-    go (some n) e ih = rw (cut-some r b k p n e) (ih (p + n) (h p n e))
-
 -- One theorem for every list whose rule says when an entry stands.
 module _ (r : Rule) (b : List ℕ) (standsAt : ℕ → ℕ → Type 0) (says : (p n : ℕ) → (r b p ≡ some n) ↔ standsAt p n) where
   joined : {p : ℕ} {ss : List Span} → Stands r b p ss → EndToEnd p ss (after p ss)
@@ -103,7 +96,8 @@ module _ (r : Rule) (b : List ℕ) (standsAt : ℕ → ℕ → Type 0) (says : (
   each-stands no-more s m = absurd (List·Memᴰ·not-nil m)
   each-stands (one-more {s = x} e f t) s m = ⊎-elim {C = standsAt (s .at) (s .len)} (λ q. subst (λ (y : Span). standsAt (y .at) (y .len)) (sym q) (rw e (says _ _ .0 f))) (λ k. each-stands t s k) (List·Memᴰ·cases-cons m)
 
-  pub cut-into : (count p tail : ℕ) → after p (cut r b count p) ≤ length b → tail ≡ length b - after p (cut r b count p) → CutInto standsAt (length b) p count (cut r b count p) (after p (cut r b count p)) tail
+  pub cut-into : (count p tail : ℕ) → after p (cut r b count p) ≤ length b → tail ≡ length b - after p (cut r b count p)
+      → CutInto standsAt (length b) p count (cut r b count p) (after p (cut r b count p)) tail
   cut-into count p tail h t =
       let i = is-cut r b count p in record {
         end-to-end = joined (i .stands);

@@ -9,9 +9,9 @@ use mathlib.Core.Option.{Option, none, some}
 use lib.ListN.{length, getD, drop}
 use lib.Dec.{ltb, eqb}
 use borrow.Author.Tests.{ltb-false, eqb-true, ne-eqb, lt-ltb, le-ltb}
-use Rattle.format.specs.Bytes.{be16At, be32At, part}
+use Rattle.format.specs.Bytes.{be16At, part}
 use Rattle.format.specs.Strip.{Entry, container, u8At, u16At, u32At, ip4At}
-use Rattle.format.specs.Cut.{Span, Rule, cut, after, linkRule, prefixRule, fixedRule}
+use Rattle.format.specs.Cut.{Span, Rule, cut, after, standing, fixedRule}
 use Rattle.format.specs.Header.{headerEntries3}
 use Rattle.format.specs.Body.{listing, leftover, whole, bodyEntries, bodyTail}
 use Rattle.format.specs.V3 as v3
@@ -25,8 +25,8 @@ use Rattle.format.proofs.Unique.{span, cut-none, cut-some}
 use Rattle.format.proofs.Nested.{nested-fields, nested-append, nested-leftover, absent, ranges-append, ranges-container, ranges-flat}
 use Rattle.format.proofs.NestedLsa.{nested-header3}
 use Rattle.format.proofs.Shown.{shows, listed, lsa-shows}
-use Rattle.format.proofs.CutInto.{cut-ends, cut-into, fixed-stands-at, link-stands, prefix-stands}
-use Rattle.format.proofs.Laid.{fixed-length, among-cond, cond-same, laid-nested}
+use Rattle.format.proofs.CutInto.{cut-into, fixed-stands-at, link-stands, prefix-stands}
+use Rattle.format.proofs.Laid.{cut-inside, fixed-length, among-cond, cond-same, laid-nested}
 use Rattle.format.proofs.LaidLsa.{laid-any}
 
 -- An id that is none of an LSA's containers has no range.
@@ -72,7 +72,7 @@ links3-shown d o h l =
     let k = (length b - 4) / 16 in
     let m = le-ltb (length b) 4 l in
     let fixed = v3.routerFlags b q ++ (v3.options b q ∷ []) in
-    let ends = cut-ends (fixedRule 16) b (λ p n e. fixed-stands-at 16 b p n .0 e .inside) k 4 l in
+    let ends = cut-inside 16 _ b k 4 l in
     listed (shows (fixedRule 16) b (FixedAt 16 b) (fixed-stands-at 16 b) k 4 ends q 15 96 33 (inLink b q) no-container refl refl refl refl (λ s. nested-fields no-container (inLink b q s) refl)
     (headerEntries3 d o ++ fixed)
     (nested-append no-container (nested-header3 no-container d o) (nested-fields no-container fixed refl))
@@ -81,17 +81,19 @@ links3-shown d o h l =
     (rw (h, m) refl))
 
 -- The items of a list that is shown are the spans of its cut.
-items-are : {standsAt : ℕ → ℕ → Type 0} {count first o array item unparsed tail : ℕ} {es : List Entry} (r : Rule) (b : List ℕ)
-    → ((p n : ℕ) → (r b p ≡ some n) ↔ standsAt p n) → after first (cut r b count first) ≤ length b
-    → Listed standsAt (length b) count first o array item unparsed es tail → ranges item es ≡ placed o (cut r b count first)
-items-are {standsAt} {count} {first} {o} r b says ends l = l .shows .items ∙ ap (placed o) (sym (l .shows .only-cut _ _ _ (cut-into r b standsAt says count first _ ends refl) .0))
+items-are : {standsAt : ℕ → ℕ → Type 0} {count first o array item unparsed tail : ℕ} {es : List Entry} (least : ℕ) (declared : Rule) (b : List ℕ)
+    → ((p n : ℕ) → (standing least declared b p ≡ some n) ↔ standsAt p n) → first ≤ length b
+    → Listed standsAt (length b) count first o array item unparsed es tail → ranges item es ≡ placed o (cut (standing least declared) b count first)
+items-are {standsAt} {count} {first} {o} least declared b says h l =
+    let c = cut-into (standing least declared) b standsAt says count first _ (cut-inside least declared b count first h) refl in
+    l .shows .items ∙ ap (placed o) (sym (l .shows .only-cut _ _ _ c .0))
 
 -- The links of any LSA are its list of links, where it has one.
 link-ranges2 : (d : List ℕ) (o : ℕ) → ranges 96 (lsaEntries 2 d o) ≡ linkRanges 2 d o
 link-ranges2 d o = go (eqb (getD d 3 0) 1) refl (ltb (length (drop 20 d)) 4) refl
   where
     go : (s : Bool) → eqb (getD d 3 0) 1 ≡ s → (t : Bool) → ltb (length (drop 20 d)) 4 ≡ t → ranges 96 (lsaEntries 2 d o) ≡ linkRanges 2 d o
-    go true h false k = rw (h, k) (let b = drop 20 d in let l = ltb-false _ _ k in items-are linkRule b (link-stands b) (cut-ends linkRule b (λ p n e. link-stands b p n .0 e .inside) (be16At b 2) 4 l) (lsa-shows 2 d o .links refl (eqb-true _ _ h) l))
+    go true h false k = rw (h, k) (let l = ltb-false _ _ k in items-are 12 _ (drop 20 d) (link-stands (drop 20 d)) l (lsa-shows 2 d o .links refl (eqb-true _ _ h) l))
     go true h true k = rw (h, k) (no-range 2 d o 96 (simp (among-cond, h, k)))
     go false h t k = rw h (no-range 2 d o 96 (simp (among-cond, cond-same, h)))
 
@@ -99,7 +101,7 @@ link-ranges3 : (d : List ℕ) (o : ℕ) → ranges 96 (lsaEntries 3 d o) ≡ lin
 link-ranges3 d o = go (eqb (be16At d 2 % 8192) 1) refl (ltb (length (drop 20 d)) 4) refl
   where
     go : (s : Bool) → eqb (be16At d 2 % 8192) 1 ≡ s → (t : Bool) → ltb (length (drop 20 d)) 4 ≡ t → ranges 96 (lsaEntries 3 d o) ≡ linkRanges 3 d o
-    go true h false k = rw (h, k) (let b = drop 20 d in let l = ltb-false _ _ k in items-are (fixedRule 16) b (fixed-stands-at 16 b) (cut-ends (fixedRule 16) b (λ p n e. fixed-stands-at 16 b p n .0 e .inside) ((length b - 4) / 16) 4 l) (links3-shown d o (eqb-true _ _ h) l))
+    go true h false k = rw (h, k) (let l = ltb-false _ _ k in items-are 16 _ (drop 20 d) (fixed-stands-at 16 (drop 20 d)) l (links3-shown d o (eqb-true _ _ h) l))
     go true h true k = rw (h, k) (no-range 3 d o 96 (simp (among-cond, h, k)))
     go false h t k = rw h (no-range 3 d o 96 (simp (among-cond, cond-same, h)))
 
@@ -116,9 +118,9 @@ prefix-ranges d o = go (eqb (be16At d 2 % 8192) 8) refl (eqb (be16At d 2 % 8192)
   where
     go : (s : Bool) → eqb (be16At d 2 % 8192) 8 ≡ s → (t : Bool) → eqb (be16At d 2 % 8192) 9 ≡ t → (x : Bool) → ltb (length (drop 20 d)) 24 ≡ x → (y : Bool) → ltb (length (drop 20 d)) 12 ≡ y
         → ranges 97 (lsaEntries 3 d o) ≡ prefixRanges d o
-    go true h t i false j y k = rw (h, j) (let b = drop 20 d in let l = ltb-false _ _ j in items-are prefixRule b (prefix-stands b) (cut-ends prefixRule b (λ p n e. prefix-stands b p n .0 e .inside) (be32At b 20) 24 l) (lsa-shows 3 d o .link-prefixes refl (eqb-true _ _ h) l))
+    go true h t i false j y k = rw (h, j) (let l = ltb-false _ _ j in items-are 4 _ (drop 20 d) (prefix-stands (drop 20 d)) l (lsa-shows 3 d o .link-prefixes refl (eqb-true _ _ h) l))
     go true h t i true j y k = rw (h, j) (no-range 3 d o 97 (simp (among-cond, cond-same, h, j)))
-    go false h true i x j false k = rw (h, i, k) (let b = drop 20 d in let l = ltb-false _ _ k in items-are prefixRule b (prefix-stands b) (cut-ends prefixRule b (λ p n e. prefix-stands b p n .0 e .inside) (be16At b 0) 12 l) (lsa-shows 3 d o .area-prefixes refl (eqb-true _ _ i) l))
+    go false h true i x j false k = rw (h, i, k) (let l = ltb-false _ _ k in items-are 4 _ (drop 20 d) (prefix-stands (drop 20 d)) l (lsa-shows 3 d o .area-prefixes refl (eqb-true _ _ i) l))
     go false h true i x j true k = rw (h, i, k) (no-range 3 d o 97 (simp (among-cond, cond-same, h, i, k)))
     go false h false i x j y k = rw (h, i) (no-range 3 d o 97 (simp (among-cond, cond-same, h, i)))
 

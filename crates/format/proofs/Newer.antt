@@ -38,6 +38,10 @@ le-ne {a} {b} h n = go (ltb a b) refl
     go true e = ltb-true a b e
     go false e = let l = ltb-false a b e in absurd (n (omega arith))
 
+-- What is compared where neither age is refused.
+abbrev ranked : Header → Header → Newness
+ranked x y = larger (signedRank (x .sequenceNumber)) (signedRank (y .sequenceNumber)) (larger (x .checksum) (y .checksum) (aged (x .age) (y .age) (younger (x .age) (y .age))))
+
 -- Each comparison, for whatever holds of its answer.
 module _ (P : Newness → Type 0) where
   larger-says : (a b : ℕ) (n : Newness) → (b < a → P first) → (a < b → P second) → (a ≡ b → P n) → P (larger a b n)
@@ -77,7 +81,7 @@ module _ (x y : Header) (h : x .sequenceNumber < 4294967296) (k : y .sequenceNum
   unfolding newness
   says = go (ltb 3600 (x .age)) refl (ltb 3600 (y .age)) refl
     where
-      by-numbers : x .age ≤ 3600 → y .age ≤ 3600 → Says (larger (signedRank (x .sequenceNumber)) (signedRank (y .sequenceNumber)) (larger (x .checksum) (y .checksum) (aged (x .age) (y .age) (younger (x .age) (y .age)))))
+      by-numbers : x .age ≤ 3600 → y .age ≤ 3600 → Says (ranked x y)
       by-numbers a b =
           larger-says Says _ _ _ (λ l. (a, b, by-sequence (rank-below _ _ k h l))) (λ l. (a, b, by-sequence (rank-below _ _ h k l))) (λ r.
           let e = rank-equal _ _ h k r in
@@ -86,7 +90,7 @@ module _ (x y : Header) (h : x .sequenceNumber < 4294967296) (k : y .sequenceNum
           younger-says Says _ _ (λ l. (a, b, by-age e c (le-ne b (λ z. let q = w .1 z in omega arith)) l)) (λ l. (a, b, by-age (sym e) (sym c) (le-ne a (λ z. let q = w .0 z in omega arith)) l)) (a, b))))
 
       go : (s : Bool) → ltb 3600 (x .age) ≡ s → (t : Bool) → ltb 3600 (y .age) ≡ t
-          → Says (cond s (refused 11) (cond t (refused 11) (larger (signedRank (x .sequenceNumber)) (signedRank (y .sequenceNumber)) (larger (x .checksum) (y .checksum) (aged (x .age) (y .age) (younger (x .age) (y .age)))))))
+          → Says (cond s (refused 11) (cond t (refused 11) (ranked x y)))
       go true p t q = (refl, inl (ltb-true 3600 (x .age) p))
       go false p true q = (refl, inr (ltb-true 3600 (y .age) q))
       go false p false q = by-numbers (ltb-false 3600 (x .age) p) (ltb-false 3600 (y .age) q)
@@ -99,7 +103,7 @@ newer-first x y h k a b n = rw (le-ltb 3600 (x .age) a, le-ltb 3600 (y .age) b) 
     alike : (p q : ℕ) (m : Newness) → p ≡ q → larger p q m ≡ m
     alike p q m e = rw (le-ltb q p (omega arith), le-ltb p q (omega arith))
 
-    go : Newer x y → larger (signedRank (x .sequenceNumber)) (signedRank (y .sequenceNumber)) (larger (x .checksum) (y .checksum) (aged (x .age) (y .age) (younger (x .age) (y .age)))) ≡ first
+    go : Newer x y → ranked x y ≡ first
     go (by-sequence s) = rw (lt-ltb _ _ (below-rank k h s))
     go (by-checksum e c) = rw (alike _ _ _ (ap signedRank e), lt-ltb _ _ c)
     go (by-max-age e c m l) = rw (alike _ _ _ (ap signedRank e), alike _ _ _ c, eq-eqb _ 3600 m, ne-eqb (y .age) 3600 (λ z. omega arith))

@@ -145,11 +145,17 @@ refusals v d o least es r t room =
     (rw (number-is v d o least es r t room)
     (table v d o least room (length (encode es)) (no-version v) (less maxData (length d)) (less maxOffset o) (less (length d) least) (less room (length (encode es)))))
   where
-    go : (s : Bool) → eqb (refusal v d o least) 0 ≡ s → (f : Bool) → ltb room (length (encode es)) ≡ f → Numbers v d o least room (length (encode es)) (answerOf (unless (refusal v d o least) (accepted es r t)) room .number)
+    go : (s : Bool) → eqb (refusal v d o least) 0 ≡ s → (f : Bool) → ltb room (length (encode es)) ≡ f
+        → Numbers v d o least room (length (encode es)) (answerOf (unless (refusal v d o least) (accepted es r t)) room .number)
         → Refusals v d o least room (length (encode es)) (answerOf (unless (refusal v d o least) (accepted es r t)) room)
     go true p true q n = record { numbers = n; length-of = λ h. rw (p, q); no-length = λ h k. absurd (k (rw (p, q))); no-records = λ h. rw (p, q) (refl, refl) }
     go true p false q n = record { numbers = n; length-of = λ h. rw (p, q); no-length = λ h k. absurd (h (rw (p, q))); no-records = λ h. absurd (h (rw (p, q))) }
-    go false p f q n = record { numbers = n; length-of = λ h. absurd (⊎-elim (λ z. eqb-false (refusal v d o least) 0 p (rw p at z)) (λ z. let y = rw p at z in let m = most-refusal v d o least in omega arith) h); no-length = λ h k. rw p; no-records = λ h. rw p (refl, refl) }
+    go false p f q n = record {
+      numbers = n;
+      length-of = λ h. absurd (⊎-elim (λ z. eqb-false (refusal v d o least) 0 p (rw p at z)) (λ z. let y = rw p at z in let m = most-refusal v d o least in omega arith) h);
+      no-length = λ h k. rw p;
+      no-records = λ h. rw p (refl, refl);
+    }
 
 -- A call that is not accepted leaves the buffer, and answers no record and no tail.
 pub refused-leaves : (x : Outcome) (before : List ℕ) → (answerOf x (length before) .number ≡ 0 → ⊥)

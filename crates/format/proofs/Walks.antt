@@ -21,12 +21,13 @@ use Rattle.format.specs.Shown.{own, UpdateShows, OneShows, HeadersShow}
 use Rattle.format.specs.Lists.{unparsed}
 use Rattle.format.proofs.Nested.{Nested}
 use Rattle.format.proofs.Nested.Nested.{none}
+use Rattle.format.proofs.Laid.{cut-inside}
 use Rattle.format.proofs.LaidLsa.{laid-lsa}
 use Rattle.format.proofs.LaidWalks.{laid-headers, laid-update, lsa-ending}
 use Rattle.format.proofs.ListRanges.{link-ranges, prefix-ranges, update-links, update-prefixes}
 use Rattle.format.proofs.NestedLsa.{below, nested-lsa, nested-header}
 use Rattle.format.proofs.Shown.{shows, lsa-shows, read-strip}
-use Rattle.format.proofs.CutInto.{cut-ends, record-stands, fixed-stands-at}
+use Rattle.format.proofs.CutInto.{record-stands, fixed-stands-at}
 use Rattle.format.proofs.Refusals.{limits}
 use Rattle.format.proofs.Lists.{length-listing, whole-after}
 use Rattle.format.proofs.Wrote.{encode-append}
@@ -77,8 +78,9 @@ update-shows v d count o before h =
     let k = taken (refusal v d o 4) es (length (lsas d count)) (length d - after 4 (lsas d count)) before h in
     let held : Span → List Entry = λ (s : Span). lsaEntries v (own d s) (o + s .at) in
     let nested : (s : Span) → Nested below (held s) = λ s. nested-lsa v (own d s) (o + s .at) in
-    let ends = cut-ends recordRule d (λ p n e. record-stands d p n .0 e .inside) count 4 (limits v d o 4 (k .not-refused) .enough) in
-    let sh = shows recordRule d (RecordAt d) (record-stands d) count 4 ends o 114 113 (unparsed v) held below refl refl refl refl nested [] none es (length d - after 4 (lsas d count)) refl refl in
+    let ends = cut-inside 20 _ d count 4 (limits v d o 4 (k .not-refused) .enough) in
+    let sh = shows recordRule d (RecordAt d) (record-stands d) count 4 ends o 114 113 (unparsed v) held below refl refl refl refl
+    nested [] none es (length d - after 4 (lsas d count)) refl refl in
     rw (k .answered, k .written) (record {
       entries = es;
       spans = lsas d count;
@@ -126,9 +128,10 @@ headers-show v d o before h =
     let held : Span → List Entry = λ (s : Span). headerEntries v (own d s) (o + s .at) in
     let nested : (s : Span) → Nested below (held s) = λ s. nested-header v (own d s) (o + s .at) in
     let q : length d - 0 ≡ length d = omega arith in
-    let ends = cut-ends (fixedRule headerSize) d (λ p n e. fixed-stands-at 20 d p n .0 e .inside) (length d / 20) 0 (omega arith) in
+    let ends = cut-inside 20 _ d (length d / 20) 0 (omega arith) in
     let a = whole-after headerSize d 0 (omega arith) in
-    let sh = shows (fixedRule headerSize) d (FixedAt 20 d) (fixed-stands-at 20 d) (length d / 20) 0 ends o 114 112 (unparsed v) held below refl refl refl refl nested [] none es (length d - after 0 (headers d)) (rw q) (rw q) in
+    let sh = shows (fixedRule headerSize) d (FixedAt 20 d) (fixed-stands-at 20 d) (length d / 20) 0 ends o 114 112 (unparsed v) held below refl refl refl refl
+    nested [] none es (length d - after 0 (headers d)) (rw q) (rw q) in
     rw (k .answered, k .written) (record {
       entries = es;
       spans = cut (fixedRule headerSize) d (length d / 20) 0;

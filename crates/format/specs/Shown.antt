@@ -23,7 +23,8 @@ use Rattle.format.specs.V3.{lsaEntries3}
 -- with the array's id lies from the list's first place to where the tail begins. Before the array no item stands; in it
 -- are the spans' containers, with what they hold, and nothing else; after it comes nothing, or, where the tail is not
 -- empty, one unparsed entry to the body's end.
-pub record Shows (standsAt : ℕ → ℕ → Type 0) (size count first o array item unparsed : ℕ) (spans : List Span) (end tail : ℕ) (before : List Entry) (held : Span → List Entry) (es : List Entry) : Type 0 where
+pub record Shows (standsAt : ℕ → ℕ → Type 0) (size count first o array item unparsed : ℕ)
+    (spans : List Span) (end tail : ℕ) (before : List Entry) (held : Span → List Entry) (es : List Entry) : Type 0 where
   pub is-cut : CutInto standsAt size first count spans end tail
   pub only-cut : (ss : List Span) (e t : ℕ) → CutInto standsAt size first count ss e t → (ss ≡ spans) × (e ≡ end) × (t ≡ tail)
   pub items : ranges item es ≡ placed o spans
@@ -67,7 +68,8 @@ pub record UpdateShows (v : ℕ) (d : List ℕ) (count o : ℕ) (strip : List �
   pub end : ℕ
   pub read : readAll strip ≡ some entries
   pub laid : Laid anything o (o + length d) entries
-  pub shows : Shows (RecordAt d) (length d) count 4 o 114 113 (unparsed v) spans end tail [] (λ s. cond (eqb v 2) (lsaEntries2 (own d s) (o + s .at)) (lsaEntries3 (own d s) (o + s .at))) entries
+  pub shows : Shows (RecordAt d) (length d) count 4 o 114 113 (unparsed v) spans end tail []
+      (λ s. cond (eqb v 2) (lsaEntries2 (own d s) (o + s .at)) (lsaEntries3 (own d s) (o + s .at))) entries
   pub links : ranges 96 entries ≡ flatMap (λ (s : Span). linkRanges v (own d s) (o + s .at)) spans
   pub prefixes : v ≡ 3 → ranges 97 entries ≡ flatMap (λ (s : Span). prefixRanges (own d s) (o + s .at)) spans
   pub lists : (s : Span) → (t : ℕ) × LsaShows v (own d s) (o + s .at) (cond (eqb v 2) (lsaEntries2 (own d s) (o + s .at)) (lsaEntries3 (own d s) (o + s .at))) t
@@ -96,7 +98,8 @@ pub record HeadersShow (v : ℕ) (d : List ℕ) (o : ℕ) (strip : List ℕ) (re
   pub end : ℕ
   pub read : readAll strip ≡ some entries
   pub laid : Laid anything o (o + length d) entries
-  pub shows : Shows (FixedAt 20 d) (length d) (length d / 20) 0 o 114 112 (unparsed v) spans end tail [] (λ s. cond (eqb v 2) (headerEntries2 (own d s) (o + s .at)) (headerEntries3 (own d s) (o + s .at))) entries
+  pub shows : Shows (FixedAt 20 d) (length d) (length d / 20) 0 o 114 112 (unparsed v) spans end tail []
+      (λ s. cond (eqb v 2) (headerEntries2 (own d s) (o + s .at)) (headerEntries3 (own d s) (o + s .at))) entries
   pub all-whole : tail < 20
   pub counted : records ≡ length spans
   pub objects-counted : length (ranges 112 entries) ≡ records
