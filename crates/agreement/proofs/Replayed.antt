@@ -6,7 +6,7 @@ use mathlib.Core.Bool.{Bool, true, false}
 use mathlib.Core.List.{List}
 use lib.ListN.{length, getD, take, drop}
 use Rattle.format.specs.Bytes.{be32At, be64At}
-use Rattle.format.specs.Walks.{walkOf, answerOf, stripOf}
+use Rattle.format.specs.Walks.{namedOf, answerOf, stripOf}
 use Rattle.answer.specs.Answers.{answered, answerMeaning}
 use Rattle.answer.specs.declared.Answer.{Answer}
 use Rattle.stored.specs.Stored.{walkAt, roomAt, sizeAt}
@@ -20,11 +20,12 @@ pub record Ran (b : List ℕ) (p n count offset : ℕ) (before after : List ℕ)
   pub counted : count ≡ be32At b (p + 2)
   pub placed : offset ≡ be64At b (p + 6)
   pub filled : before ≡ lent (roomAt b p)
-  pub said : a ≡ answered (answerOf (walkOf (getD b p 0) (walkAt b p) (take (p + 22 + n - (p + 22)) (drop (p + 22) b)) count offset) (length before))
-  pub left : after ≡ stripOf (walkOf (getD b p 0) (walkAt b p) (take (p + 22 + n - (p + 22)) (drop (p + 22) b)) count offset) before
+  pub said : a ≡ answered (answerOf (namedOf (getD b p 0) (walkAt b p) (take (p + 22 + n - (p + 22)) (drop (p + 22) b)) count offset) (length before))
+  pub left : after ≡ stripOf (namedOf (getD b p 0) (walkAt b p) (take (p + 22 + n - (p + 22)) (drop (p + 22) b)) count offset) before
 
 module _ (b : List ℕ) (p : ℕ) where
-  said-by : {n count offset : ℕ} {before after : List ℕ} {a : Answer} → Ran b p n count offset before after a
+  -- the answer and the buffer are those of the definitions
+  pub said-by : {n count offset : ℕ} {before after : List ℕ} {a : Answer} → Ran b p n count offset before after a
       → (a ≡ answered (answerOf (outcomeAt b p) (roomAt b p))) × (after ≡ stripOf (outcomeAt b p) (lent (roomAt b p)))
   unfolding outcomeAt
   said-by {n} {before = before} r =

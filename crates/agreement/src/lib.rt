@@ -3,10 +3,11 @@
 ghost use mathlib.Core.Path.{_≡_};
 ghost use Prim.Native.Nat.{_+_, _≤_};
 ghost use lib.ListN.{length};
+ghost use Rattle.format.specs.Walks.{stripOf};
 ghost use Rattle.stored.specs.Stored.{callSize, roomAt};
 ghost use Rattle.expected.specs.Expected.{lent};
-ghost use Rattle.agreement.specs.Agree.{agreesAt};
-use common::walk;
+ghost use Rattle.agreement.specs.Agree.{agreesAt, leftAt, outcomeAt};
+use common::walk_by_number;
 use expected::FILL;
 use expected::is_answer;
 use expected::is_buffer;
@@ -14,12 +15,12 @@ use stored::CALL;
 use util::read_be_u32;
 use util::read_be_u64;
 
-// Whether the call that stands at a place agrees with the walks. The strip's buffer has at least the call's room; what is
-// left in it is not told.
+// Whether the call that stands at a place agrees with the walks. The strip's buffer has at least the call's room.
 pub fn agrees(file: &[u8], pos: usize, strip: &mut [u8]) -> bool
     requires { ⌜ pos + callSize (now file) pos ≤ length (now file) ⌝ }
     requires { ⌜ roomAt (now file) pos ≤ length (now strip) ⌝ }
     ensures { λ r. ⌜ r ≡ agreesAt (now (file .entry)) pos ⌝ }
+    ensures { λ r. ⌜ now (strip .exit) ≡ leftAt (now (file .entry)) pos (now (strip .entry)) ⌝ }
 {
     let room = read_be_u32(file, pos + 14) as usize;
     agrees_in(file, pos, &mut strip[..room])
@@ -30,6 +31,7 @@ fn agrees_in(file: &[u8], pos: usize, strip: &mut [u8]) -> bool
     requires { ⌜ pos + callSize (now file) pos ≤ length (now file) ⌝ }
     requires { ⌜ roomAt (now file) pos ≡ length (now strip) ⌝ }
     ensures { λ r. ⌜ r ≡ agreesAt (now (file .entry)) pos ⌝ }
+    ensures { λ r. ⌜ now (strip .exit) ≡ stripOf (outcomeAt (now (file .entry)) pos) (lent (roomAt (now (file .entry)) pos)) ⌝ }
 {
     let size = read_be_u32(file, pos + 18) as usize;
     let start = pos + CALL;
@@ -37,7 +39,7 @@ fn agrees_in(file: &[u8], pos: usize, strip: &mut [u8]) -> bool
     let count = read_be_u32(file, pos + 2);
     let offset = read_be_u64(file, pos + 6);
     fill(strip);
-    let answer = walk(
+    let answer = walk_by_number(
         file[pos],
         file[pos + 1],
         &file[start..q],

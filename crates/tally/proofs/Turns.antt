@@ -2,14 +2,15 @@
 use Prim.Native.Nat.{ℕ, zero, suc, _+_, _-_, _≤_, _<_}
 use native.Mathlib.Nat.{not-suc-le-zero}
 use native.Mathlib.Omega.{arith}
-use mathlib.Core.Path.{_≡_, ap, _∙_}
+use mathlib.Core.Path.{_≡_, sym, ap, _∙_}
 use mathlib.Core.Bool.{Bool, true, false}
 use mathlib.Core.List.{List, [], _∷_}
 use mathlib.Core.Option.{some}
 use lib.ListN.{length}
-use Rattle.format.specs.Cut.{Rule, cut, after}
+use Rattle.format.specs.Cut.{Rule, Span, cut, after}
 use Rattle.format.proofs.Unique.{span, cut-some}
-use Rattle.tally.specs.Calls.{countOf, firstOf}
+use Rattle.agreement.specs.Agree.{leftAt}
+use Rattle.tally.specs.Calls.{countOf, firstOf, differs, replayed, upToFirst}
 
 module _ (r : Rule) (b : List ℕ) (left p n : ℕ) (h : 0 < left) (e : r b p ≡ some n) where
   ahead : cut r b left p ≡ span p n ∷ cut r b (left - 1) (p + n)
@@ -42,6 +43,21 @@ module _ (r : Rule) (b : List ℕ) (left p n : ℕ) (h : 0 < left) (e : r b p �
     pub first-later : f p ≡ false → firstOf f (cut r b left p) ≡ suc (firstOf f (cut r b (left - 1) (p + n)))
     unfolding firstOf
     first-later t = ap (firstOf f) ahead ∙ rw t
+
+  -- the buffer after the call at p, and the calls that are left to replay in it
+  pub replayed-turn : (s : List ℕ) {t k : List ℕ} → t ≡ leftAt b p s → replayed b (cut r b left p) s ≡ k → replayed b (cut r b (left - 1) (p + n)) t ≡ k
+  unfolding replayed
+  replayed-turn s q i = rw q (sym (ap (λ (ss : List Span). replayed b ss s) ahead) ∙ i)
+
+  -- the same where no call is replayed after the first that differs
+  pub first-replayed-later : (s : List ℕ) {t k : List ℕ} → differs b p ≡ false → t ≡ leftAt b p s → replayed b (upToFirst b (cut r b left p)) s ≡ k
+      → replayed b (upToFirst b (cut r b (left - 1) (p + n))) t ≡ k
+  unfolding replayed firstOf
+  first-replayed-later s d q i = rw q (sym (ap (λ (ss : List Span). replayed b (upToFirst b ss) s) ahead ∙ rw d) ∙ i)
+
+  pub first-replayed-here : (s : List ℕ) {t k : List ℕ} → differs b p ≡ true → t ≡ leftAt b p s → replayed b (upToFirst b (cut r b left p)) s ≡ k → t ≡ k
+  unfolding replayed firstOf
+  first-replayed-here s d q i = rw q (sym (ap (λ (ss : List Span). replayed b (upToFirst b ss) s) ahead ∙ rw d) ∙ i)
 
 -- A loop stands at p with `left` calls still due, and has counted those before that pass the test f.
 pub record Counting (r : Rule) (f : ℕ → Bool) (b : List ℕ) (count p left : ℕ) : Type 0 where

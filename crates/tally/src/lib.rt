@@ -3,7 +3,7 @@ ghost use mathlib.Core.Path.{_≡_};
 ghost use lib.ListN.{length};
 ghost use Rattle.format.specs.Cut.{after};
 ghost use Rattle.stored.specs.Stored.{isOf};
-ghost use Rattle.tally.specs.Calls.{calls, countOf, differs, firstOf};
+ghost use Rattle.tally.specs.Calls.{allReplayed, calls, countOf, differs, firstOf, replayedToFirst};
 use agreement::agrees;
 use fit::Fit;
 use stored::call_fits;
@@ -57,6 +57,7 @@ pub fn count_calls(file: &[u8], most: usize, walk: u8, number: u8) -> usize
 // How many calls do not agree with the walks.
 pub fn count_different(file: &[u8], strip: &mut [u8]) -> usize
     ensures { λ r. ⌜ r ≡ countOf (differs (now (file .entry))) (calls (length (now (strip .entry))) (now (file .entry))) ⌝ }
+    ensures { λ r. ⌜ now (strip .exit) ≡ allReplayed (now (file .entry)) (now (strip .entry)) ⌝ }
 {
     let most = strip.len();
     let mut different: usize = 0;
@@ -78,6 +79,7 @@ pub fn count_different(file: &[u8], strip: &mut [u8]) -> usize
 // How many calls stand before the first that does not agree.
 pub fn first_different(file: &[u8], strip: &mut [u8]) -> usize
     ensures { λ r. ⌜ r ≡ firstOf (differs (now (file .entry))) (calls (length (now (strip .entry))) (now (file .entry))) ⌝ }
+    ensures { λ r. ⌜ now (strip .exit) ≡ replayedToFirst (now (file .entry)) (now (strip .entry)) ⌝ }
 {
     let most = strip.len();
     let mut pos: usize = 0;

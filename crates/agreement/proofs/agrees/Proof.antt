@@ -1,6 +1,10 @@
+use Prim.Native.Nat.{ℕ}
 use native.Mathlib.Omega.{arith}
-use mathlib.Core.Path.{sym, _∙_}
+use mathlib.Core.Path.{_≡_, sym, _∙_}
+use mathlib.Core.List.{List, _++_}
+use lib.ListN.{drop}
 use lib.Seq.{length-take-le}
+use Rattle.agreement.specs.Agree.{leftAt}
 use borrow.Author.Needs.{needs}
 use Rattle.agreement.proofs.agrees.Statement.{statement}
 use Rattle.agreement.proofs.agrees.Tie as tie
@@ -27,8 +31,15 @@ agrees-in-requires c κs =
 same-length : tie.Need-same-length
 same-length c = search needs
 
+-- the part that was lent, and the rest
+parts : (before : List ℕ) {x y : List ℕ} {m n : ℕ} → x ≡ y → m ≡ n → x ++ drop m before ≡ y ++ drop n before
+parts before e f = rw (e, f)
+
 returns : tie.Need-returns
-returns c = search needs
+unfolding leftAt
+returns c =
+    let s = c .before .before .before .before .before .before .before .args .strip .now in
+    (search needs, parts s (c .before .before .agrees-in .ensures .1) (c .before .before .before .before .read-be-u32 .ensures))
 
 pub agrees-spec : {M : Type 1} → statement M
 agrees-spec =

@@ -4,7 +4,7 @@ use lib.ListN.{length}
 use borrow.Author.Tests.{not-true, not-false}
 use Rattle.stored.specs.Stored.{roomAt, sizeAt}
 use Rattle.expected.specs.Expected.{lent}
-use Rattle.agreement.proofs.Replayed.{Ran, answer-differs, answer-agrees}
+use Rattle.agreement.proofs.Replayed.{Ran, said-by, answer-differs, answer-agrees}
 use borrow.Author.Needs.{needs}
 use Rattle.agreement.proofs.agrees_in.Statement.{statement}
 use Rattle.agreement.proofs.agrees_in.Tie as tie
@@ -39,26 +39,26 @@ read-be-u64-requires c κs = search needs
 fill-requires : tie.Need-fill-requires
 fill-requires c κs = search needs
 
-shared-slice-read-walk : tie.Need-shared-slice-read-walk
-shared-slice-read-walk c = search needs
+shared-slice-read-walk-by-number : tie.Need-shared-slice-read-walk-by-number
+shared-slice-read-walk-by-number c = search needs
 
-add-walk : tie.Need-add-walk
-add-walk c = search needs
+add-walk-by-number : tie.Need-add-walk-by-number
+add-walk-by-number c = search needs
 
-shared-slice-read-walk-2 : tie.Need-shared-slice-read-walk-2
-shared-slice-read-walk-2 c = search needs
+shared-slice-read-walk-by-number-2 : tie.Need-shared-slice-read-walk-by-number-2
+shared-slice-read-walk-by-number-2 c = search needs
 
-sub-walk : tie.Need-sub-walk
-sub-walk c = search needs
+sub-walk-by-number : tie.Need-sub-walk-by-number
+sub-walk-by-number c = search needs
 
-part-walk-start : tie.Need-part-walk-start
-part-walk-start c = search needs
+part-walk-by-number-start : tie.Need-part-walk-by-number-start
+part-walk-by-number-start c = search needs
 
-part-walk-end : tie.Need-part-walk-end
-part-walk-end c = search needs
+part-walk-by-number-end : tie.Need-part-walk-by-number-end
+part-walk-by-number-end c = search needs
 
-walk-requires : tie.Need-walk-requires
-walk-requires c κs = search needs
+walk-by-number-requires : tie.Need-walk-by-number-requires
+walk-by-number-requires c κs = search needs
 
 is-answer-requires : tie.Need-is-answer-requires
 is-answer-requires c κs = search needs
@@ -67,20 +67,21 @@ same-length : tie.Need-same-length
 same-length c = search needs
 
 -- the walk was called as the stored call says
-ran : (c : tie.After-slice-known3) → Ran (c .before .before .before .before .before .before .before .before .before .before .before .before .before .before .before .before .args .file .now) (c .before .before .before .before .before .before .before .before .before .before .before .before .before .before .before .before .args .pos) (c .before .before .before .before .before .before .before .before .before .before .before .before .before .read-be-u32 .result) (c .before .before .before .before .before .before .before .before .before .before .before .before .read-be-u322 .result) (c .before .before .before .before .before .before .before .before .before .before .before .read-be-u64 .result) (c .before .before .before .before .before .before .before .before .before .fill .last .0) (c .before .before .walk .last .1 .1 .1 .1 .1 .0) (c .before .before .walk .result)
+ran : (c : tie.After-slice-known3) → Ran (c .before .before .before .before .before .before .before .before .before .before .before .before .before .before .before .before .args .file .now) (c .before .before .before .before .before .before .before .before .before .before .before .before .before .before .before .before .args .pos) (c .before .before .before .before .before .before .before .before .before .before .before .before .before .read-be-u32 .result) (c .before .before .before .before .before .before .before .before .before .before .before .before .read-be-u322 .result) (c .before .before .before .before .before .before .before .before .before .before .before .read-be-u64 .result) (c .before .before .before .before .before .before .before .before .before .fill .last .0) (c .before .before .walk-by-number .last .1 .1 .1 .1 .1 .0) (c .before .before .walk-by-number .result)
 ran c = record {
   sized = c .before .before .before .before .before .before .before .before .before .before .before .before .before .read-be-u32 .ensures;
   counted = c .before .before .before .before .before .before .before .before .before .before .before .before .read-be-u322 .ensures;
   placed = c .before .before .before .before .before .before .before .before .before .before .before .read-be-u64 .ensures;
   filled = c .before .before .before .before .before .before .before .before .before .fill .ensures ∙ ap lent (sym (c .before .before .before .before .before .before .before .before .before .before .before .before .before .before .before .before .pre .1));
-  said = c .before .before .walk .ensures .0;
-  left = c .before .before .walk .ensures .1;
+  said = c .before .before .walk-by-number .ensures .0;
+  left = c .before .before .walk-by-number .ensures .1;
 }
 
 returns : tie.Need-returns
 returns c =
     let s = c .before .before .before .before .before .before .before .before .before .before .before .before .before .before .before .before .before .before .args in
-    sym (answer-differs (s .file .now) (s .pos) (ran (c .before .before)) (c .before .is-answer .ensures) (not-true _ (c .if1 .taken)))
+    let r = ran (c .before .before) in
+    (sym (answer-differs (s .file .now) (s .pos) r (c .before .is-answer .ensures) (not-true _ (c .if1 .taken))), said-by (s .file .now) (s .pos) r .1)
 
 is-buffer-requires : tie.Need-is-buffer-requires
 is-buffer-requires c κs =
@@ -97,8 +98,9 @@ returns-2 : tie.Need-returns-2
 returns-2 c =
     let s = c .before .before .before .before .before .before .before .before .before .before .before .before .before .before .before .before .before .before .before .before .args in
     let f = s .file .now in
-    let n : length (c .before .before .before .before .before .before .walk .last .1 .1 .1 .1 .1 .0) ≡ roomAt f (s .pos) = omega (arith, c .before .before .before .before .before .before .walk .kept, c .before .before .before .before .before .before .before .before .before .before .before .before .before .fill .kept, c .before .before .before .before .before .before .before .before .before .before .before .before .before .before .before .before .before .before .before .before .pre .1) in
-    answer-agrees f (s .pos) (ran (c .before .before .before .before)) (c .before .before .before .is-answer .ensures) (not-false _ (c .before .before .if1 .left)) n (c .is-buffer .ensures)
+    let n : length (c .before .before .before .before .before .before .walk-by-number .last .1 .1 .1 .1 .1 .0) ≡ roomAt f (s .pos) = omega (arith, c .before .before .before .before .before .before .walk-by-number .kept, c .before .before .before .before .before .before .before .before .before .before .before .before .before .fill .kept, c .before .before .before .before .before .before .before .before .before .before .before .before .before .before .before .before .before .before .before .before .pre .1) in
+    let r = ran (c .before .before .before .before) in
+    (answer-agrees f (s .pos) r (c .before .before .before .is-answer .ensures) (not-false _ (c .before .before .if1 .left)) n (c .is-buffer .ensures), said-by f (s .pos) r .1)
 
 pub agrees-in-spec : {M : Type 1} → statement M
 agrees-in-spec =
@@ -114,13 +116,13 @@ agrees-in-spec =
     add-read-be-u64
     read-be-u64-requires
     fill-requires
-    shared-slice-read-walk
-    add-walk
-    shared-slice-read-walk-2
-    sub-walk
-    part-walk-start
-    part-walk-end
-    walk-requires
+    shared-slice-read-walk-by-number
+    add-walk-by-number
+    shared-slice-read-walk-by-number-2
+    sub-walk-by-number
+    part-walk-by-number-start
+    part-walk-by-number-end
+    walk-by-number-requires
     is-answer-requires
     same-length
     returns

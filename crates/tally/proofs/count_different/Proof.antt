@@ -9,21 +9,25 @@ use borrow.Author.Needs.{needs}
 use Rattle.format.specs.Cut.{cut}
 use Rattle.format.proofs.Unique.{cut-none}
 use Rattle.stored.specs.Stored.{callRule}
-use Rattle.tally.specs.Calls.{differs}
+use Rattle.tally.specs.Calls.{allReplayed, differs, replayed}
 use Rattle.fit.proofs.Laws.{some-of, none-of}
 use Rattle.stored.proofs.Rule.{standing-call}
-use Rattle.tally.proofs.Turns.{Counting, counting-begin, counting-yes, counting-no, counting-end}
+use Rattle.tally.proofs.Turns.{replayed-turn, Counting, counting-begin, counting-yes, counting-no, counting-end}
 use Rattle.tally.proofs.count_different.Statement.{statement}
 use Rattle.tally.proofs.count_different.Tie as tie
 
 abbrev Inv-loop : tie.InvT-loop
-Inv-loop file strip₀ most different₀ pos₀ left₀ strip different pos left = (length strip ≡ length strip₀) × (pos ≤ length file) × Counting (callRule (length strip₀)) (differs file) file different pos left
+Inv-loop file strip₀ most different₀ pos₀ left₀ strip different pos left =
+    (length strip ≡ length strip₀)
+    × (pos ≤ length file)
+    × Counting (callRule (length strip₀)) (differs file) file different pos left
+    × (replayed file (cut (callRule (length strip₀)) file left pos) strip ≡ allReplayed file strip₀)
 
 abbrev μ-loop : tie.MeasureT-loop
 μ-loop file strip₀ most different₀ pos₀ left₀ strip different pos left = left
 
 loop-holds : tie.Need-loop-holds Inv-loop μ-loop
-loop-holds c = (refl, omega arith, counting-begin (callRule _) _ _)
+loop-holds c = (refl, omega arith, counting-begin (callRule _) _ _, refl)
 
 call-fits-requires : tie.Need-call-fits-requires Inv-loop μ-loop
 call-fits-requires c κs = omega arith
@@ -64,7 +68,7 @@ counted c =
     let r = callRule (length (s .strip .now)) in
     let f = differs (s .file .now) in
     let g = c .before .before .before .before .before .before .before .before .before .before .loop .inv .2 in
-    let e = ap not (sym (c .before .before .before .agrees .ensures)) in
+    let e = ap not (sym (c .before .before .before .agrees .ensures .0)) in
     ⊎-elim
     (λ w. counting-yes r f (s .file .now) _ g (omega arith) (fits (c .before .before .before .before)) (e ∙ w .0 .taken) (w .1))
     (λ w. counting-no r f (s .file .now) _ g (omega arith) (fits (c .before .before .before .before)) (e ∙ w .0 .left) (w .1))
@@ -72,26 +76,36 @@ counted c =
 
 loop-again : tie.Need-loop-again Inv-loop μ-loop
 loop-again c =
-    let h = standing-call _ _ _ _ (fits (c .before .before .before .before)) in
-    (omega (arith, c .before .before .before .agrees .kept), omega (arith, h .within, h .long), counted c)
+    let l = c .before .before .before .before .before .before .before .before .before .before .loop in
+    let s = c .before .before .before .before .before .before .before .before .before .before .before .before .before .args in
+    let r = callRule (length (s .strip .now)) in
+    let h = standing-call _ _ _ _ (fits (c .before .before .before .before)) in (
+      omega (arith, c .before .before .before .agrees .kept),
+      omega (arith, h .within, h .long),
+      counted c,
+      replayed-turn r (s .file .now) (l .left) (l .pos) _ (omega arith) (fits (c .before .before .before .before)) (l .strip) (c .before .before .before .agrees .ensures .1) (l .inv .3),
+    )
 
 same-length : tie.Need-same-length Inv-loop μ-loop
 same-length c = c .before .loop .inv .0
 
 returns : tie.Need-returns Inv-loop μ-loop
-unfolding cut
+unfolding cut replayed
 returns c =
     let l = c .before .loop in
     let z : l .left ≡ 0 = omega arith in
-    counting-end (callRule _) _ _ (l .inv .2) (rw z refl)
+    (counting-end (callRule _) _ _ (l .inv .2) (rw z refl), rw z at (l .inv .3))
 
 same-length-2 : tie.Need-same-length-2 Inv-loop μ-loop
 same-length-2 c = c .before .before .before .before .loop .inv .0
 
 returns-2 : tie.Need-returns-2 Inv-loop μ-loop
+unfolding replayed
 returns-2 c =
     let l = c .before .before .before .before .loop in
-    counting-end (callRule _) _ _ (l .inv .2) (cut-none (callRule _) _ _ _ (none-of _ (c .before .before .call-fits .result) (c .before .before .call-fits .ensures) (c .enum-told .given .1)))
+    let s = c .before .before .before .before .before .before .before .args in
+    let e = cut-none (callRule (length (s .strip .now))) (s .file .now) (l .left) (l .pos) (none-of _ (c .before .before .call-fits .result) (c .before .before .call-fits .ensures) (c .enum-told .given .1)) in
+    (counting-end (callRule _) _ _ (l .inv .2) e, rw e at (l .inv .3))
 
 pub count-different-spec : {M : Type 1} → statement M
 count-different-spec =

@@ -9,21 +9,26 @@ use borrow.Author.Needs.{needs}
 use Rattle.format.specs.Cut.{cut}
 use Rattle.format.proofs.Unique.{cut-none}
 use Rattle.stored.specs.Stored.{callRule}
-use Rattle.tally.specs.Calls.{calls, firstOf, differs}
+use Rattle.tally.specs.Calls.{calls, firstOf, differs, replayed, replayedToFirst, upToFirst}
 use Rattle.fit.proofs.Laws.{some-of, none-of}
 use Rattle.stored.proofs.Rule.{standing-call}
-use Rattle.tally.proofs.Turns.{first-here, first-later}
+use Rattle.tally.proofs.Turns.{first-here, first-later, first-replayed-here, first-replayed-later}
 use Rattle.tally.proofs.first_different.Statement.{statement}
 use Rattle.tally.proofs.first_different.Tie as tie
 
 abbrev Inv-loop : tie.InvT-loop
-Inv-loop file strip₀ most pos₀ left₀ strip pos left = (length strip ≡ length strip₀) × (pos ≤ length file) × (left ≤ length file) × (length file - left + firstOf (differs file) (cut (callRule (length strip₀)) file left pos) ≡ firstOf (differs file) (calls (length strip₀) file))
+Inv-loop file strip₀ most pos₀ left₀ strip pos left =
+    (length strip ≡ length strip₀)
+    × (pos ≤ length file)
+    × (left ≤ length file)
+    × (length file - left + firstOf (differs file) (cut (callRule (length strip₀)) file left pos) ≡ firstOf (differs file) (calls (length strip₀) file))
+    × (replayed file (upToFirst file (cut (callRule (length strip₀)) file left pos)) strip ≡ replayedToFirst file strip₀)
 
 abbrev μ-loop : tie.MeasureT-loop
 μ-loop file strip₀ most pos₀ left₀ strip pos left = left
 
 loop-holds : tie.Need-loop-holds Inv-loop μ-loop
-loop-holds c = (refl, omega arith, omega arith, omega arith)
+loop-holds c = (refl, omega arith, omega arith, omega arith, refl)
 
 call-fits-requires : tie.Need-call-fits-requires Inv-loop μ-loop
 call-fits-requires c κs = omega arith
@@ -59,9 +64,15 @@ loop-again c =
     let l = c .before .before .before .before .before .before .before .before .before .before .loop in
     let f = c .before .before .before .before .before .before .before .before .before .before .before .before .before .args .file .now in
     let h = standing-call _ _ _ _ (fits (c .before .before .before .before)) in
-    let e = ap not (sym (c .before .before .before .agrees .ensures)) ∙ c .if1 .left in
-    let t = first-later (callRule (length (c .before .before .before .before .before .before .before .before .before .before .before .before .before .args .strip .now))) f (l .left) (l .pos) _ (omega arith) (fits (c .before .before .before .before)) (differs f) e in
-    (omega (arith, c .before .before .before .agrees .kept), omega (arith, h .within, h .long), omega arith, omega (arith, t))
+    let e = ap not (sym (c .before .before .before .agrees .ensures .0)) ∙ c .if1 .left in
+    let r = callRule (length (c .before .before .before .before .before .before .before .before .before .before .before .before .before .args .strip .now)) in
+    let t = first-later r f (l .left) (l .pos) _ (omega arith) (fits (c .before .before .before .before)) (differs f) e in (
+      omega (arith, c .before .before .before .agrees .kept),
+      omega (arith, h .within, h .long),
+      omega arith,
+      omega (arith, t),
+      first-replayed-later r f (l .left) (l .pos) _ (omega arith) (fits (c .before .before .before .before)) (l .strip) e (c .before .before .before .agrees .ensures .1) (l .inv .4),
+    )
 
 sub-result : tie.Need-sub-result Inv-loop μ-loop
 sub-result c = omega arith
@@ -87,13 +98,27 @@ stopped c =
     (λ w. let z : l .left ≡ 0 = omega (arith, w .0 .left) in rw z refl)
     (⊎-elim
     (λ w. rw (cut-none r f (l .left) (l .pos) (none-of (r f (l .pos)) (w .1 .result) (w .1 .ensures) (w .3 .given .1))) refl)
-    (λ w. first-here r f (l .left) (l .pos) (w .3 .given .0 .0) (w .0 .taken) (some-of (r f (l .pos)) _ (w .1 .result) (w .1 .ensures) (w .3 .given .1)) (differs f) (ap not (sym (w .6 .ensures)) ∙ w .9 .taken)))
+    (λ w. first-here r f (l .left) (l .pos) (w .3 .given .0 .0) (w .0 .taken) (some-of (r f (l .pos)) _ (w .1 .result) (w .1 .ensures) (w .3 .given .1)) (differs f) (ap not (sym (w .6 .ensures .0)) ∙ w .9 .taken)))
+    (c .loop-test .came)
+
+-- and what the buffer then holds
+left-in : (c : tie.Left-loop Inv-loop μ-loop) → c .loop-test .strip ≡ replayedToFirst (c .before .before .before .before .args .file .now) (c .before .before .before .before .args .strip .now)
+unfolding cut firstOf differs replayed
+left-in c =
+    let l = c .before .loop in
+    let f = c .before .before .before .before .args .file .now in
+    let r = callRule (length (c .before .before .before .before .args .strip .now)) in
+    ⊎-elim
+    (λ w. let z : l .left ≡ 0 = omega (arith, w .0 .left) in w .1 ∙ rw z at (l .inv .4))
+    (⊎-elim
+    (λ w. w .4 ∙ rw (cut-none r f (l .left) (l .pos) (none-of (r f (l .pos)) (w .1 .result) (w .1 .ensures) (w .3 .given .1))) at (l .inv .4))
+    (λ w. w .10 ∙ first-replayed-here r f (l .left) (l .pos) (w .3 .given .0 .0) (w .0 .taken) (some-of (r f (l .pos)) _ (w .1 .result) (w .1 .ensures) (w .3 .given .1)) (l .strip) (ap not (sym (w .6 .ensures .0)) ∙ w .9 .taken) (w .6 .ensures .1) (l .inv .4)))
     (c .loop-test .came)
 
 returns : tie.Need-returns Inv-loop μ-loop
 returns c =
     let e = stopped c in
-    omega (arith, c .before .loop .inv .3)
+    (omega (arith, c .before .loop .inv .3), left-in c)
 
 pub first-different-spec : {M : Type 1} → statement M
 first-different-spec =
