@@ -59,8 +59,8 @@ pub record LsaShows (v : ℕ) (d : List ℕ) (o : ℕ) (es : List Entry) (tail :
 abbrev pub own : List ℕ → Span → List ℕ
 own d s = take (s .len) (drop (s .at) d)
 
--- An accepted update: its strip reads as entries, well nested, that show the cut of its records; each record's object
--- holds the entries of that LSA's own bytes at its own place, which show the lists inside it; and the answer's records are
+-- An accepted update: its strip reads as entries, laid out in the data, that show the cut of its records; each object
+-- holds the entries of its LSA's own bytes at its own place, which show the lists inside it; and the answer's records are
 -- the spans' number, and the objects'.
 pub record UpdateShows (v : ℕ) (d : List ℕ) (count o : ℕ) (strip : List ℕ) (records tail : ℕ) : Type 0 where
   pub entries : List Entry
@@ -77,12 +77,13 @@ pub record UpdateShows (v : ℕ) (d : List ℕ) (count o : ℕ) (strip : List �
   pub objects-counted : length (ranges 113 entries) ≡ records
   pub longer : 0 < length strip
 
--- An accepted single LSA: its strip reads as its entries, well nested, that show the lists inside it; it is one record.
+-- An accepted single LSA: its strip reads as its entries, laid out in the data, which show the lists inside it and end in
+-- its tail, if there is one; it is one record.
 pub record OneShows (v : ℕ) (d : List ℕ) (o : ℕ) (strip : List ℕ) (records tail : ℕ) : Type 0 where
   pub entries : List Entry
   pub read : readAll strip ≡ some entries
   pub laid : Laid (holds v d) o (o + length d) entries
-  pub holds : entries ≡ cond (eqb v 2) (lsaEntries2 d o) (lsaEntries3 d o)
+  pub entries-are : entries ≡ cond (eqb v 2) (lsaEntries2 d o) (lsaEntries3 d o)
   pub links : ranges 96 entries ≡ linkRanges v d o
   pub prefixes : v ≡ 3 → ranges 97 entries ≡ prefixRanges d o
   pub lists : LsaShows v d o entries tail
@@ -90,7 +91,7 @@ pub record OneShows (v : ℕ) (d : List ℕ) (o : ℕ) (strip : List ℕ) (recor
   pub counted : records ≡ 1
   pub longer : 0 < length strip
 
--- An accepted header list: its strip reads as entries, well nested, that show the whole headers, all that there are; each
+-- An accepted header list: its strip reads as entries, laid out in the data, that show all whole headers; each
 -- object holds the entries of its own header at its own place; the answer's records are their number.
 pub record HeadersShow (v : ℕ) (d : List ℕ) (o : ℕ) (strip : List ℕ) (records tail : ℕ) : Type 0 where
   pub entries : List Entry
