@@ -1,6 +1,6 @@
 -- What two readings of the code say of the newness of their headers.
 use Prim.Native.Nat.{ℕ}
-use mathlib.Core.Path.{_≡_, refl}
+use mathlib.Core.Path.{_≡_}
 use native.Mathlib.Omega.{arith}
 use Rattle.format.specs.Header as format
 use Rattle.format.specs.Header.{newness, newnessRead}
