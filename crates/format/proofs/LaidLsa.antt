@@ -7,12 +7,12 @@ use mathlib.Core.Bool.{Bool, true, false, cond}
 use mathlib.Core.List.{List, [], _∷_, _++_, append-nil, append-assoc}
 use mathlib.Core.Option.{Option, none as nothing, some}
 use lib.ListN.{length, getD, drop, length-drop}
-use lib.Dec.{ltb, leb, eqb}
-use borrow.Author.Tests.{ltb-true, ltb-false, leb-true, le-ltb, eq-eqb}
+use lib.Dec.{ltb, eqb}
+use borrow.Author.Tests.{ltb-true, ltb-false, le-ltb, eq-eqb}
 use Rattle.format.specs.Bytes.{be16At}
 use Rattle.format.specs.Strip.{Entry, u8At, u16At, wide16At, metric24At, u32At, ip4At}
 use Rattle.format.specs.Strip.Entry.{bytes}
-use Rattle.format.specs.Prefix.{octets, ip6At}
+use Rattle.format.specs.Prefix.{ip6At}
 use Rattle.format.specs.Cut.{Span, Rule, cut, after, standing, fixedRule, linkRule, prefixRule}
 use Rattle.format.specs.Header.{headerEntries2, headerEntries3, identityEntries2, instanceEntries, opaqueEntries, isOpaque}
 use Rattle.format.specs.Body.{Body, listing, listingIfAny, attachedRouter, whole, leftover, bodyEntries, bodyTail}
@@ -26,6 +26,7 @@ use Rattle.format.specs.Laid.Ending.{nothing-left, unparsed-left, raw-or
 use Rattle.format.specs.Lists.{from, containers2, containers3, containers, rawOrTlvs, unparsed, holds}
 use Rattle.format.proofs.Unique.{span}
 use Rattle.format.proofs.Rules.{inside}
+use Rattle.format.proofs.Prefix.{fits-inside}
 use Rattle.format.proofs.Laid.{allHave, AllIn, cut-inside, fixed-length, fixed-end, after-from, widen, laid-fields, laid-append, laid-container, laid-cond, laid-listing, laid-listing-if, weaken, only-more}
 
 -- What is inside a link of version 2, and inside a prefix of version 3.
@@ -196,19 +197,6 @@ module _ (b : List ℕ) (o q : ℕ) where
       (same (eqb t 10) (opaque u)
       (same (eqb t 11) (opaque u) is-raw))))))))
 
--- The octets of a prefix that fits lie in the body.
-prefix-fits : (b : List ℕ) (l p n : ℕ) → v3.prefixFits b l p ≡ some n → p + n ≤ length b
-unfolding v3.prefixFits
-prefix-fits b l p n e = go (octets l) e
-  where
-    fits : (m : ℕ) (t : Bool) → leb (p + m) (length b) ≡ t → cond t (some m) nothing ≡ some n → p + n ≤ length b
-    fits m true h q = let z : m ≡ n = cc in omega (arith, leb-true (p + m) (length b) h)
-    fits m false h q = let z : _≡_ {A = ℕ} 0 1 = cc in absurd (omega arith)
-
-    go : (x : Option ℕ) → elim x [ nothing ↦ nothing | some m ↦ cond (leb (p + m) (length b)) (some m) nothing ] ≡ some n → p + n ≤ length b
-    go nothing q = let z : _≡_ {A = ℕ} 0 1 = cc in absurd (omega arith)
-    go (some m) q = fits m (leb (p + m) (length b)) refl q
-
 -- The bodies of version 3.
 module _ (b : List ℕ) (o q : ℕ) where
   abbrev Laid3 : List ℕ → (List ℕ → ℕ → Body) → Type 0
@@ -233,7 +221,7 @@ module _ (b : List ℕ) (o q : ℕ) where
           (elim x [ nothing ↦ raw | some n ↦ decoded (fields o n) (8 + n) ])
           (elim x [ nothing ↦ raw | some n ↦ decoded (fields q n) (8 + n) ])
       go nothing e = is-raw
-      go (some n) e = is (prefix-fits b (getD b 4 0) 8 n e) (laid-fields (fields o n) refl (omega arith))
+      go (some n) e = is (fits-inside b (getD b 4 0) 8 n e .0) (laid-fields (fields o n) refl (omega arith))
 
   inter-area-router : {c : List ℕ} → Laid3 c v3.interAreaRouterLsa
   unfolding v3.interAreaRouterLsa

@@ -8,7 +8,6 @@ use mathlib.Core.Bool.{Bool, true, false, cond}
 use mathlib.Core.List.{List, [], _∷_, List·Memᴰ, List·Memᴰ·eq-of-singleton, List·Memᴰ·append-cases}
 use mathlib.Core.Option.{some}
 use lib.ListN.{length, drop, length-drop}
-use lib.Seq.{length-take-le}
 use lib.Dec.{eqb}
 use Rattle.format.specs.Bytes.{part}
 use Rattle.format.specs.Strip.{Entry}
@@ -21,12 +20,9 @@ use Rattle.format.specs.Laid.Ending.{nothing-left, unparsed-left, raw-or
 use Rattle.format.specs.Lists.{containers, rawOrTlvs, unparsed}
 use Rattle.format.proofs.Unique.{span}
 use Rattle.format.proofs.Rules.{inside}
+use Rattle.format.proofs.Lengths.{part-length}
 use Rattle.format.proofs.Laid.{after-from, cut-inside, widen, weaken, laid-append, laid-container, laid-cond, laid-listing, laid-leftover, laid-member}
 use Rattle.format.proofs.LaidLsa.{laid-header2, laid-header3, laid-lsa, lsa-ends}
-
--- The bytes of an entry that stands in the data.
-length-part : (d : List ℕ) (p n : ℕ) → p + n ≤ length d → length (part d p n) ≡ n
-length-part d p n h = length-take-le n (drop p d) (rw (length-drop p d) (omega arith))
 
 -- An outer array and the tail after it, where each object lies where its span stands.
 laid-outer : (v : ℕ) (f : Span → List Entry) (d : List ℕ) (o least : ℕ) (declared : Rule) (k p : ℕ) → p ≤ length d
@@ -56,7 +52,7 @@ laid-update v d count o h = laid-outer v (lsaObject v d o) d o 20 _ count 4 h ob
     object : (q n : ℕ) → recordRule d q ≡ some n → Laid anything (o + q) (o + q + n) (lsaObject v d o (span q n))
     object q n e =
         let i = inside 20 _ d q n e in
-        let m = length-part d q n (i .within) in
+        let m = part-length d q n (i .within) in
         laid-container _ _ _ refl (omega arith) (omega arith) (omega arith)
         (widen (omega arith) (omega arith) (weaken (λ x h. refl) (laid-lsa v (part d q n) (o + q) (omega (arith, i .enough)))))
 
