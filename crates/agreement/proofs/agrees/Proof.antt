@@ -9,27 +9,12 @@ use borrow.Author.Needs.{needs}
 use Rattle.agreement.proofs.agrees.Statement.{statement}
 use Rattle.agreement.proofs.agrees.Tie as tie
 
-add-read-be-u32 : tie.Need-add-read-be-u32
-add-read-be-u32 c = search needs
-
-read-be-u32-requires : tie.Need-read-be-u32-requires
-read-be-u32-requires c κs = search needs
-
-cast-room : tie.Need-cast-room
-cast-room c = search needs
-
-slice-relend-prefix-agrees-in : tie.Need-slice-relend-prefix-agrees-in
-slice-relend-prefix-agrees-in c = search needs
-
 slice-aggregate-agrees-in : tie.Need-slice-aggregate-agrees-in
 slice-aggregate-agrees-in c = sym (length-take-le (c .before .read-be-u32 .result) (c .before .before .before .before .args .strip .now) (omega arith))
 
 agrees-in-requires : tie.Need-agrees-in-requires
 agrees-in-requires c κs =
     (c .before .before .before .before .pre .0, sym (c .before .read-be-u32 .ensures) ∙ sym (length-take-le (c .before .read-be-u32 .result) (c .before .before .before .before .args .strip .now) (omega arith)))
-
-same-length : tie.Need-same-length
-same-length c = search needs
 
 -- the part that was lent, and the rest
 parts : (before : List ℕ) {x y : List ℕ} {m n : ℕ} → x ≡ y → m ≡ n → x ++ drop m before ≡ y ++ drop n before
@@ -42,14 +27,6 @@ returns c =
     (search needs, parts s (c .before .before .agrees-in .ensures .1) (c .before .before .before .before .read-be-u32 .ensures))
 
 pub agrees-spec : {M : Type 1} → statement M
-agrees-spec =
-    tie.close
-    (tie.spec
-    add-read-be-u32
-    read-be-u32-requires
-    cast-room
-    slice-relend-prefix-agrees-in
-    slice-aggregate-agrees-in
-    agrees-in-requires
-    same-length
-    returns)
+agrees-spec = tie.close (tie.spec
+    (search needs) (search needs) (search needs) (search needs) slice-aggregate-agrees-in agrees-in-requires
+    (search needs) returns)

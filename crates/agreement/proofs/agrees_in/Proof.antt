@@ -9,63 +9,6 @@ use borrow.Author.Needs.{needs}
 use Rattle.agreement.proofs.agrees_in.Statement.{statement}
 use Rattle.agreement.proofs.agrees_in.Tie as tie
 
-add-read-be-u32 : tie.Need-add-read-be-u32
-add-read-be-u32 c = search needs
-
-read-be-u32-requires : tie.Need-read-be-u32-requires
-read-be-u32-requires c κs = search needs
-
-cast-size : tie.Need-cast-size
-cast-size c = search needs
-
-add-start : tie.Need-add-start
-add-start c = search needs
-
-add-q : tie.Need-add-q
-add-q c = search needs
-
-add-read-be-u32-2 : tie.Need-add-read-be-u32-2
-add-read-be-u32-2 c = search needs
-
-read-be-u32-requires-2 : tie.Need-read-be-u32-requires-2
-read-be-u32-requires-2 c κs = search needs
-
-add-read-be-u64 : tie.Need-add-read-be-u64
-add-read-be-u64 c = search needs
-
-read-be-u64-requires : tie.Need-read-be-u64-requires
-read-be-u64-requires c κs = search needs
-
-fill-requires : tie.Need-fill-requires
-fill-requires c κs = search needs
-
-shared-slice-read-walk-by-number : tie.Need-shared-slice-read-walk-by-number
-shared-slice-read-walk-by-number c = search needs
-
-add-walk-by-number : tie.Need-add-walk-by-number
-add-walk-by-number c = search needs
-
-shared-slice-read-walk-by-number-2 : tie.Need-shared-slice-read-walk-by-number-2
-shared-slice-read-walk-by-number-2 c = search needs
-
-sub-walk-by-number : tie.Need-sub-walk-by-number
-sub-walk-by-number c = search needs
-
-part-walk-by-number-start : tie.Need-part-walk-by-number-start
-part-walk-by-number-start c = search needs
-
-part-walk-by-number-end : tie.Need-part-walk-by-number-end
-part-walk-by-number-end c = search needs
-
-walk-by-number-requires : tie.Need-walk-by-number-requires
-walk-by-number-requires c κs = search needs
-
-is-answer-requires : tie.Need-is-answer-requires
-is-answer-requires c κs = search needs
-
-same-length : tie.Need-same-length
-same-length c = search needs
-
 -- the walk was called as the stored call says
 ran : (c : tie.After-slice-known3) → Ran (c .before .before .before .before .before .before .before .before .before .before .before .before .before .before .before .before .args .file .now) (c .before .before .before .before .before .before .before .before .before .before .before .before .before .before .before .before .args .pos) (c .before .before .before .before .before .before .before .before .before .before .before .before .before .read-be-u32 .result) (c .before .before .before .before .before .before .before .before .before .before .before .before .read-be-u322 .result) (c .before .before .before .before .before .before .before .before .before .before .before .read-be-u64 .result) (c .before .before .before .before .before .before .before .before .before .fill .last .0) (c .before .before .walk-by-number .last .1 .1 .1 .1 .1 .0) (c .before .before .walk-by-number .result)
 ran c = record {
@@ -91,9 +34,6 @@ is-buffer-requires c κs =
     let n : c .before .before .before .before .before .before .before .before .before .before .before .before .before .before .before .before .read-be-u32 .result ≡ sizeAt f p = c .before .before .before .before .before .before .before .before .before .before .before .before .before .before .before .before .read-be-u32 .ensures in
     rw n (omega (arith, c .before .before .before .before .before .before .before .before .before .before .before .before .before .before .before .before .before .before .before .pre .0))
 
-same-length-2 : tie.Need-same-length-2
-same-length-2 c = search needs
-
 returns-2 : tie.Need-returns-2
 returns-2 c =
     let s = c .before .before .before .before .before .before .before .before .before .before .before .before .before .before .before .before .before .before .before .before .args in
@@ -103,29 +43,8 @@ returns-2 c =
     (answer-agrees f (s .pos) r (c .before .before .before .is-answer .ensures) (not-false _ (c .before .before .if1 .left)) n (c .is-buffer .ensures), said-by f (s .pos) r .1)
 
 pub agrees-in-spec : {M : Type 1} → statement M
-agrees-in-spec =
-    tie.close
-    (tie.spec
-    add-read-be-u32
-    read-be-u32-requires
-    cast-size
-    add-start
-    add-q
-    add-read-be-u32-2
-    read-be-u32-requires-2
-    add-read-be-u64
-    read-be-u64-requires
-    fill-requires
-    shared-slice-read-walk-by-number
-    add-walk-by-number
-    shared-slice-read-walk-by-number-2
-    sub-walk-by-number
-    part-walk-by-number-start
-    part-walk-by-number-end
-    walk-by-number-requires
-    is-answer-requires
-    same-length
-    returns
-    is-buffer-requires
-    same-length-2
+agrees-in-spec = tie.close (tie.spec
+    (search needs) (search needs) (search needs) (search needs) (search needs) (search needs) (search needs)
+    (search needs) (search needs) (search needs) (search needs) (search needs) (search needs) (search needs)
+    (search needs) (search needs) (search needs) (search needs) (search needs) returns is-buffer-requires (search needs)
     returns-2)

@@ -6,9 +6,6 @@ use borrow.Author.Needs.{needs}
 use Rattle.answer.proofs.refusal_of.Statement.{statement}
 use Rattle.answer.proofs.refusal_of.Tie as tie
 
-is-known-requires : tie.Need-is-known-requires
-is-known-requires c κs = search needs
-
 returns : tie.Need-returns
 returns c =
     let d = c .before .before .before .args .data .now in
@@ -45,5 +42,4 @@ returns-5 c =
     rw (k, le-ltb 65535 (length d) (omega arith), le-ltb 4294901760 o (omega arith), le-ltb (length d) (c .before .before .before .before .before .before .args .least) (omega arith))
 
 pub refusal-of-spec : {M : Type 1} → statement M
-refusal-of-spec =
-    tie.close (tie.spec is-known-requires returns returns-2 returns-3 returns-4 returns-5)
+refusal-of-spec = tie.close (tie.spec (search needs) returns returns-2 returns-3 returns-4 returns-5)

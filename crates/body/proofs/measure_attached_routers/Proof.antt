@@ -7,21 +7,6 @@ use borrow.Author.Needs.{needs}
 use Rattle.body.proofs.measure_attached_routers.Statement.{statement}
 use Rattle.body.proofs.measure_attached_routers.Tie as tie
 
-sub-count : tie.Need-sub-count
-sub-count c = search needs
-
-mul-t3 : tie.Need-mul-t3
-mul-t3 c = search needs
-
-add-t4 : tie.Need-add-t4
-add-t4 c = search needs
-
-mul-t5 : tie.Need-mul-t5
-mul-t5 c = search needs
-
-add-t6 : tie.Need-add-t6
-add-t6 c = search needs
-
 returns : tie.Need-returns
 unfolding attachedRouter encode code
 returns c =
@@ -29,4 +14,4 @@ returns c =
     (λ i o. sym (length-whole 4 b 4 (omega arith) i (attachedRouter b o) o 14 (λ s. refl)), sym (whole-after 4 b 4 (omega arith)))
 
 pub measure-attached-routers-spec : {M : Type 1} → statement M
-measure-attached-routers-spec = tie.close (tie.spec sub-count mul-t3 add-t4 mul-t5 add-t6 returns)
+measure-attached-routers-spec = tie.close (tie.spec (search needs) (search needs) (search needs) (search needs) (search needs) returns)

@@ -9,24 +9,6 @@ use borrow.Author.Needs.{needs}
 use Rattle.body.proofs.push_attached_routers.Statement.{statement}
 use Rattle.body.proofs.push_attached_routers.Tie as tie
 
-sub-count : tie.Need-sub-count
-sub-count c = search needs
-
-mul-end : tie.Need-mul-end
-mul-end c = search needs
-
-add-end : tie.Need-add-end
-add-end c = search needs
-
-add-begin-container : tie.Need-add-begin-container
-add-begin-container c = search needs
-
-cast-begin-container : tie.Need-cast-begin-container
-cast-begin-container c = search needs
-
-add-begin-container-2 : tie.Need-add-begin-container-2
-add-begin-container-2 c = search needs
-
 begin-container-requires : tie.Need-begin-container-requires
 unfolding spread whole code
 begin-container-requires c κs =
@@ -54,9 +36,6 @@ end-container-requires c κs =
     let l = length-listing (s .args .id) (attachedRouter b o) o 4 (whole 4 b 4) in
     omega arith
 
-same-length : tie.Need-same-length
-same-length c = search needs
-
 returns : tie.Need-returns
 unfolding whole
 returns c =
@@ -67,17 +46,6 @@ returns c =
     (listed (s .args .id) (attachedRouter b o) o 4 (whole 4 b 4) (ap (λ (x : ℕ). o + x) e) (c .before .before .before .before .before .before .before .before .before .before .begin-container .ensures) (c .before .before .before .before .before .before .push-routers .ensures) (c .before .before .end-container .ensures), sym e)
 
 pub push-attached-routers-spec : {M : Type 1} → statement M
-push-attached-routers-spec =
-    tie.close
-    (tie.spec
-    sub-count
-    mul-end
-    add-end
-    add-begin-container
-    cast-begin-container
-    add-begin-container-2
-    begin-container-requires
-    push-routers-requires
-    end-container-requires
-    same-length
-    returns)
+push-attached-routers-spec = tie.close (tie.spec
+    (search needs) (search needs) (search needs) (search needs) (search needs) (search needs) begin-container-requires
+    push-routers-requires end-container-requires (search needs) returns)

@@ -8,18 +8,6 @@ use borrow.Author.Needs.{needs}
 use Rattle.body.proofs.push_unparsed.Statement.{statement}
 use Rattle.body.proofs.push_unparsed.Tie as tie
 
-cast-push-bytes : tie.Need-cast-push-bytes
-cast-push-bytes c = search needs
-
-add-push-bytes : tie.Need-add-push-bytes
-add-push-bytes c = search needs
-
-cast-push-bytes-2 : tie.Need-cast-push-bytes-2
-cast-push-bytes-2 c = search needs
-
-add-push-bytes-2 : tie.Need-add-push-bytes-2
-add-push-bytes-2 c = search needs
-
 push-bytes-requires : tie.Need-push-bytes-requires
 unfolding leftover encode code
 push-bytes-requires c κs =
@@ -27,9 +15,6 @@ push-bytes-requires c κs =
     let t = lt-ltb (c .before .before .before .before .args .p) (length b) (c .before .if1 .taken) in
     let h = rw t at (c .before .before .before .before .pre .0) in
     omega arith
-
-same-length : tie.Need-same-length
-same-length c = search needs
 
 returns : tie.Need-returns
 unfolding leftover encode code
@@ -46,14 +31,5 @@ returns-2 c =
     rw t (nothing _ _)
 
 pub push-unparsed-spec : {M : Type 1} → statement M
-push-unparsed-spec =
-    tie.close
-    (tie.spec
-    cast-push-bytes
-    add-push-bytes
-    cast-push-bytes-2
-    add-push-bytes-2
-    push-bytes-requires
-    same-length
-    returns
-    returns-2)
+push-unparsed-spec = tie.close (tie.spec
+    (search needs) (search needs) (search needs) (search needs) push-bytes-requires (search needs) returns returns-2)

@@ -5,17 +5,8 @@ use borrow.Author.Needs.{needs}
 use Rattle.common.proofs.walk_by_number.Statement.{statement}
 use Rattle.common.proofs.walk_by_number.Tie as tie
 
-walk-named-requires : tie.Need-walk-named-requires
-walk-named-requires c κs = search needs
-
-enum-known-named : tie.Need-enum-known-named
-enum-known-named c = search needs
-
 enum-told : tie.Need-enum-told
 enum-told c = search needs
-
-refused-requires : tie.Need-refused-requires
-refused-requires c κs = search needs
 
 returns : tie.Need-returns
 unfolding namedOf answerOf stripOf
@@ -23,12 +14,6 @@ returns c =
     let n = walkNamed (c .before .before .before .before .before .before .args .number) in
     let e = no-walk-of n _ (c .before .before .before .walk-named .ensures) (c .before .enum-told .given .1) in
     rw (namedOf, e) (c .refused .ensures, refl)
-
-walk-requires : tie.Need-walk-requires
-walk-requires c κs = search needs
-
-same-length : tie.Need-same-length
-same-length c = search needs
 
 returns-2 : tie.Need-returns-2
 unfolding namedOf
@@ -38,14 +23,4 @@ returns-2 c =
     rw (namedOf, e) (c .before .before .walk .ensures)
 
 pub walk-by-number-spec : {M : Type 1} → statement M
-walk-by-number-spec =
-    tie.close
-    (tie.spec
-    walk-named-requires
-    enum-known-named
-    enum-told
-    refused-requires
-    returns
-    walk-requires
-    same-length
-    returns-2)
+walk-by-number-spec = tie.close (tie.spec (search needs) (search needs) enum-told (search needs) returns (search needs) (search needs) returns-2)

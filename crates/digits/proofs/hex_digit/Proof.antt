@@ -4,12 +4,6 @@ use borrow.Author.Needs.{needs}
 use Rattle.digits.proofs.hex_digit.Statement.{statement}
 use Rattle.digits.proofs.hex_digit.Tie as tie
 
-add-result : tie.Need-add-result
-add-result c = search needs
-
-add-result-2 : tie.Need-add-result-2
-add-result-2 c = search needs
-
 returns : tie.Need-returns
 returns c = rw (lt-ltb (c .before .args .d) 10 (omega arith))
 
@@ -17,4 +11,4 @@ returns-2 : tie.Need-returns-2
 returns-2 c = rw (le-ltb (c .before .args .d) 10 (omega arith))
 
 pub hex-digit-spec : {M : Type 1} → statement M
-hex-digit-spec = tie.close (tie.spec add-result add-result-2 returns returns-2)
+hex-digit-spec = tie.close (tie.spec (search needs) (search needs) returns returns-2)

@@ -5,9 +5,6 @@ use borrow.Author.Needs.{needs}
 use Rattle.digits.proofs.put_dot.Statement.{statement}
 use Rattle.digits.proofs.put_dot.Tie as tie
 
-put-digits-requires : tie.Need-put-digits-requires
-put-digits-requires c κs = search needs
-
 put-u8-requires : tie.Need-put-u8-requires
 put-u8-requires c κs =
     let w = c .before .before .before .put-digits .ensures in
@@ -15,11 +12,8 @@ put-u8-requires c κs =
     let g = kept w in
     omega (arith, w .place)
 
-same-length : tie.Need-same-length
-same-length c = search needs
-
 returns : tie.Need-returns
 returns c = then (c .before .before .before .before .before .before .put-digits .ensures) (c .before .before .put-u8 .ensures)
 
 pub put-dot-spec : {M : Type 1} → statement M
-put-dot-spec = tie.close (tie.spec put-digits-requires put-u8-requires same-length returns)
+put-dot-spec = tie.close (tie.spec (search needs) put-u8-requires (search needs) returns)

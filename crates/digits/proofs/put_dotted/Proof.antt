@@ -6,15 +6,6 @@ use borrow.Author.Needs.{needs}
 use Rattle.digits.proofs.put_dotted.Statement.{statement}
 use Rattle.digits.proofs.put_dotted.Tie as tie
 
-cast-put-dot : tie.Need-cast-put-dot
-cast-put-dot c = search needs
-
-put-dot-requires : tie.Need-put-dot-requires
-put-dot-requires c κs = search needs
-
-cast-put-dot-2 : tie.Need-cast-put-dot-2
-cast-put-dot-2 c = search needs
-
 put-dot-requires-2 : tie.Need-put-dot-requires-2
 put-dot-requires-2 c κs =
     let a = c .before .before .before .before .before .before .args in
@@ -22,9 +13,6 @@ put-dot-requires-2 c κs =
     let l = length-dot (a .address / 16777216) in
     let g = kept w in
     omega (arith, w .place)
-
-cast-put-dot-3 : tie.Need-cast-put-dot-3
-cast-put-dot-3 c = search needs
 
 put-dot-requires-3 : tie.Need-put-dot-requires-3
 put-dot-requires-3 c κs =
@@ -36,9 +24,6 @@ put-dot-requires-3 c κs =
     let g = kept w in
     let h = kept x in
     omega (arith, w .place, x .place)
-
-cast-put-digits : tie.Need-cast-put-digits
-cast-put-digits c = search needs
 
 put-digits-requires : tie.Need-put-digits-requires
 put-digits-requires c κs =
@@ -54,23 +39,10 @@ put-digits-requires c κs =
     let i = kept y in
     omega (arith, w .place, x .place, y .place)
 
-same-length : tie.Need-same-length
-same-length c = search needs
-
 returns : tie.Need-returns
 returns c = then (c .before .before .before .before .before .before .before .before .before .before .before .before .before .before .put-dot .ensures) (then (c .before .before .before .before .before .before .before .before .before .before .put-dot2 .ensures) (then (c .before .before .before .before .before .before .put-dot3 .ensures) (c .before .before .put-digits .ensures)))
 
 pub put-dotted-spec : {M : Type 1} → statement M
-put-dotted-spec =
-    tie.close
-    (tie.spec
-    cast-put-dot
-    put-dot-requires
-    cast-put-dot-2
-    put-dot-requires-2
-    cast-put-dot-3
-    put-dot-requires-3
-    cast-put-digits
-    put-digits-requires
-    same-length
-    returns)
+put-dotted-spec = tie.close (tie.spec
+    (search needs) (search needs) (search needs) put-dot-requires-2 (search needs) put-dot-requires-3 (search needs)
+    put-digits-requires (search needs) returns)

@@ -5,9 +5,6 @@ use borrow.Author.Needs.{needs}
 use Rattle.digits.proofs.put_place.Statement.{statement}
 use Rattle.digits.proofs.put_place.Tie as tie
 
-put-spaced-requires : tie.Need-put-spaced-requires
-put-spaced-requires c κs = search needs
-
 put-spaced-requires-2 : tie.Need-put-spaced-requires-2
 put-spaced-requires-2 c κs =
     let w = c .before .before .before .put-spaced .ensures in
@@ -26,13 +23,8 @@ put-spaced-requires-3 c κs =
     let h = kept x in
     omega (arith, w .place, x .place)
 
-same-length : tie.Need-same-length
-same-length c = search needs
-
 returns : tie.Need-returns
 returns c = then (c .before .before .before .before .before .before .before .before .before .before .put-spaced .ensures) (then (c .before .before .before .before .before .before .put-spaced2 .ensures) (c .before .before .put-spaced3 .ensures))
 
 pub put-place-spec : {M : Type 1} → statement M
-put-place-spec =
-    tie.close
-    (tie.spec put-spaced-requires put-spaced-requires-2 put-spaced-requires-3 same-length returns)
+put-place-spec = tie.close (tie.spec (search needs) put-spaced-requires-2 put-spaced-requires-3 (search needs) returns)

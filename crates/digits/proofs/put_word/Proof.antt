@@ -18,21 +18,12 @@ abbrev μ-loop : tie.MeasureT-loop
 loop-holds : tie.Need-loop-holds Inv-loop μ-loop
 loop-holds c = (nothing _ _, omega arith)
 
-shared-slice-read-put-u8 : tie.Need-shared-slice-read-put-u8 Inv-loop μ-loop
-shared-slice-read-put-u8 c = search needs
-
 put-u8-requires : tie.Need-put-u8-requires Inv-loop μ-loop
 put-u8-requires c κs =
     let g = c .before .before .before .loop .inv in
     let l = kept (g .0) in
     let n = length-take-le (c .before .before .before .loop .i) (c .before .before .before .before .before .before .args .word .now) (g .1) in
     omega (arith, g .0 .place)
-
-add-i : tie.Need-add-i Inv-loop μ-loop
-add-i c = search needs
-
-loop-less : tie.Need-loop-less Inv-loop μ-loop
-loop-less c = search needs
 
 loop-again : tie.Need-loop-again Inv-loop μ-loop
 loop-again c =
@@ -51,16 +42,6 @@ returns c =
     rw (← (take-all (c .before .loop .i) (c .before .before .before .before .args .word .now) (omega arith))) (g .0)
 
 pub put-word-spec : {M : Type 1} → statement M
-put-word-spec =
-    tie.close
-    (tie.spec
-    Inv-loop
-    μ-loop
-    loop-holds
-    shared-slice-read-put-u8
-    put-u8-requires
-    add-i
-    loop-less
-    loop-again
-    same-length
+put-word-spec = tie.close (tie.spec
+    Inv-loop μ-loop loop-holds (search needs) put-u8-requires (search needs) (search needs) loop-again same-length
     returns)

@@ -16,23 +16,8 @@ Inv-loop input first strip out₀ written₀ place₀ out written place = Left (
 abbrev μ-loop : tie.MeasureT-loop
 μ-loop input first strip out₀ written₀ place₀ out written place = length (printed input) - written
 
-large-buffer-requires : tie.Need-large-buffer-requires Inv-loop μ-loop
-large-buffer-requires c κs = search needs
-
 loop-holds : tie.Need-loop-holds Inv-loop μ-loop
 loop-holds c = (c .before .before .before .pre, sym (c .large-buffer .ensures))
-
-slice-aggregate-put-lines : tie.Need-slice-aggregate-put-lines Inv-loop μ-loop
-slice-aggregate-put-lines c = search needs
-
-put-lines-requires : tie.Need-put-lines-requires Inv-loop μ-loop
-put-lines-requires c κs = search needs
-
-array-share-prefix-out : tie.Need-array-share-prefix-out Inv-loop μ-loop
-array-share-prefix-out c = search needs
-
-slice-aggregate-write-piece : tie.Need-slice-aggregate-write-piece Inv-loop μ-loop
-slice-aggregate-write-piece c = search needs
 
 write-piece-requires : tie.Need-write-piece-requires Inv-loop μ-loop
 write-piece-requires c κs =
@@ -62,18 +47,6 @@ returns c =
     done _ _ _ _ (l .inv .0) (omega arith) (k .0) (k .1 .0) (k .1 .1 .0) (c .if1 .taken)
 
 pub write-entries-spec : {M : Type 1} → statement M
-write-entries-spec =
-    tie.close
-    (tie.spec
-    Inv-loop
-    μ-loop
-    large-buffer-requires
-    loop-holds
-    slice-aggregate-put-lines
-    put-lines-requires
-    array-share-prefix-out
-    slice-aggregate-write-piece
-    write-piece-requires
-    loop-less
-    loop-again
-    returns)
+write-entries-spec = tie.close (tie.spec
+    Inv-loop μ-loop (search needs) loop-holds (search needs) (search needs) (search needs) (search needs)
+    write-piece-requires loop-less loop-again returns)

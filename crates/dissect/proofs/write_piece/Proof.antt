@@ -4,16 +4,10 @@ use Rattle.dissect.proofs.Bound.{text-bound}
 use Rattle.dissect.proofs.write_piece.Statement.{statement}
 use Rattle.dissect.proofs.write_piece.Tie as tie
 
-write-all-requires : tie.Need-write-all-requires
-write-all-requires c κs = search needs
-
 add-result : tie.Need-add-result
 add-result c =
     let b = text-bound (c .before .before .before .args .input .now) in
     omega arith
 
-returns : tie.Need-returns
-returns c = search needs
-
 pub write-piece-spec : {M : Type 1} → statement M
-write-piece-spec = tie.close (tie.spec write-all-requires add-result returns)
+write-piece-spec = tie.close (tie.spec (search needs) add-result (search needs))

@@ -13,9 +13,6 @@ use borrow.Author.Needs.{needs}
 use Rattle.expected.proofs.is_buffer.Statement.{statement}
 use Rattle.expected.proofs.is_buffer.Tie as tie
 
-kept-at-requires : tie.Need-kept-at-requires
-kept-at-requires c κs = search needs
-
 returns : tie.Need-returns
 returns c =
     let s = c .before .before .before .before .args .strip .now in
@@ -27,26 +24,8 @@ returns c =
     let t : c .before .kept-at .result ≡ k = c .before .kept-at .ensures in
     sym (same-lengths s (storedBuffer f q (length s)) (λ e. omega arith))
 
-add-start : tie.Need-add-start
-add-start c = search needs
-
-add-end : tie.Need-add-end
-add-end c = search needs
-
 slice-aggregate-same : tie.Need-slice-aggregate-same
 slice-aggregate-same c = sym (length-take-le (c .before .before .kept-at .result) (c .before .before .before .before .before .args .strip .now) (omega arith))
-
-sub-same : tie.Need-sub-same
-sub-same c = search needs
-
-part-same-start : tie.Need-part-same-start
-part-same-start c = search needs
-
-part-same-end : tie.Need-part-same-end
-part-same-end c = search needs
-
-same-requires : tie.Need-same-requires
-same-requires c κs = search needs
 
 returns-2 : tie.Need-returns-2
 returns-2 c =
@@ -60,18 +39,6 @@ returns-2 c =
     let w : q + 13 + j - (q + 13) ≡ j = omega arith in
     let e : c .before .same .result ≡ sameBytes (take k s) (part f (q + 13) k) = rw t at (rw w at (c .before .same .ensures)) in
     sym (same-parts s (part f (q + 13) k) (lent (length s - k)) k (omega arith) n ∙ rw (sym e ∙ not-true _ (c .if2 .taken)))
-
-sub-is-filled : tie.Need-sub-is-filled
-sub-is-filled c = search needs
-
-part-is-filled-start : tie.Need-part-is-filled-start
-part-is-filled-start c = search needs
-
-part-is-filled-end : tie.Need-part-is-filled-end
-part-is-filled-end c = search needs
-
-is-filled-requires : tie.Need-is-filled-requires
-is-filled-requires c κs = search needs
 
 returns-3 : tie.Need-returns-3
 returns-3 c =
@@ -89,21 +56,6 @@ returns-3 c =
     sym (same-parts s (part f (q + 13) k) (lent (length s - k)) k (omega arith) n ∙ rw (sym e ∙ not-false _ (c .before .before .if2 .left)) (sym r))
 
 pub is-buffer-spec : {M : Type 1} → statement M
-is-buffer-spec =
-    tie.close
-    (tie.spec
-    kept-at-requires
-    returns
-    add-start
-    add-end
-    slice-aggregate-same
-    sub-same
-    part-same-start
-    part-same-end
-    same-requires
-    returns-2
-    sub-is-filled
-    part-is-filled-start
-    part-is-filled-end
-    is-filled-requires
-    returns-3)
+is-buffer-spec = tie.close (tie.spec
+    (search needs) returns (search needs) (search needs) slice-aggregate-same (search needs) (search needs)
+    (search needs) (search needs) returns-2 (search needs) (search needs) (search needs) (search needs) returns-3)

@@ -1,3 +1,4 @@
+use borrow.Author.Needs.{needs}
 use Prim.Native.Nat.{_-_, _≤_}
 use native.Mathlib.Omega.{arith}
 use mathlib.Core.Path.{_≡_, refl, sym, _∙_}
@@ -16,9 +17,6 @@ abbrev μ-loop : tie.MeasureT-loop
 loop-holds : tie.Need-loop-holds Inv-loop μ-loop
 loop-holds c = (omega arith, refl)
 
-shared-slice-read-if1 : tie.Need-shared-slice-read-if1 Inv-loop μ-loop
-shared-slice-read-if1 c = omega arith
-
 returns : tie.Need-returns Inv-loop μ-loop
 returns c =
     let s = c .before .before .before .before .args .s .now in
@@ -26,12 +24,6 @@ returns c =
     let n = lent-length (length s) in
     let f = lent-at (length s) (l .i) (omega arith) in
     sym (l .inv .1 ∙ same-stops s (lent (length s)) (l .i) (omega arith) (omega arith) (λ e. omega arith))
-
-add-i : tie.Need-add-i Inv-loop μ-loop
-add-i c = omega arith
-
-loop-less : tie.Need-loop-less Inv-loop μ-loop
-loop-less c = omega arith
 
 loop-again : tie.Need-loop-again Inv-loop μ-loop
 loop-again c =
@@ -49,15 +41,4 @@ returns-2 c =
     sym (l .inv .1 ∙ same-end s (lent (length s)) (l .i) (omega arith) (omega arith))
 
 pub is-filled-spec : {M : Type 1} → statement M
-is-filled-spec =
-    tie.close
-    (tie.spec
-    Inv-loop
-    μ-loop
-    loop-holds
-    shared-slice-read-if1
-    returns
-    add-i
-    loop-less
-    loop-again
-    returns-2)
+is-filled-spec = tie.close (tie.spec Inv-loop μ-loop loop-holds (search needs) returns (search needs) (search needs) loop-again returns-2)

@@ -20,12 +20,6 @@ returns-2 c =
     let y = c .before .before .before .before .args .y in
     rw (le-ltb 3600 (x .age) (omega arith), lt-ltb 3600 (y .age) (omega arith))
 
-signed-rank-requires : tie.Need-signed-rank-requires
-signed-rank-requires c κs = search needs
-
-signed-rank-requires-2 : tie.Need-signed-rank-requires-2
-signed-rank-requires-2 c κs = search needs
-
 returns-3 : tie.Need-returns-3
 unfolding newness
 returns-3 c =
@@ -62,9 +56,6 @@ returns-6 c =
     let b : c .before .before .before .before .before .before .before .before .signed-rank2 .result ≡ signedRank (y .«sequence_number») = c .before .before .before .before .before .before .before .before .signed-rank2 .ensures in
     rw (le-ltb 3600 (x .age) (omega arith), le-ltb 3600 (y .age) (omega arith), le-ltb (signedRank (y .«sequence_number»)) (signedRank (x .«sequence_number»)) (omega arith), le-ltb (signedRank (x .«sequence_number»)) (signedRank (y .«sequence_number»)) (omega arith), le-ltb (y .checksum) (x .checksum) (omega arith), lt-ltb (x .checksum) (y .checksum) (omega arith))
 
-newer-by-age-requires : tie.Need-newer-by-age-requires
-newer-by-age-requires c κs = search needs
-
 returns-7 : tie.Need-returns-7
 unfolding newness
 returns-7 c =
@@ -75,16 +66,4 @@ returns-7 c =
     rw (le-ltb 3600 (x .age) (omega arith), le-ltb 3600 (y .age) (omega arith), le-ltb (signedRank (y .«sequence_number»)) (signedRank (x .«sequence_number»)) (omega arith), le-ltb (signedRank (x .«sequence_number»)) (signedRank (y .«sequence_number»)) (omega arith), le-ltb (y .checksum) (x .checksum) (omega arith), le-ltb (x .checksum) (y .checksum) (omega arith)) (c .newer-by-age .ensures)
 
 pub newer-spec : {M : Type 1} → statement M
-newer-spec =
-    tie.close
-    (tie.spec
-    returns
-    returns-2
-    signed-rank-requires
-    signed-rank-requires-2
-    returns-3
-    returns-4
-    returns-5
-    returns-6
-    newer-by-age-requires
-    returns-7)
+newer-spec = tie.close (tie.spec returns returns-2 (search needs) (search needs) returns-3 returns-4 returns-5 returns-6 (search needs) returns-7)

@@ -23,17 +23,11 @@ returns-3 c =
     let y = c .before .before .args .y in
     rw (ne-eqb x 3600 (c .before .if1 .left), eq-eqb y 3600 (c .if3 .taken))
 
-add-if4 : tie.Need-add-if4
-add-if4 c = search needs
-
 returns-4 : tie.Need-returns-4
 returns-4 c =
     let x = c .before .before .before .args .x in
     let y = c .before .before .before .args .y in
     rw (ne-eqb x 3600 (c .before .before .if1 .left), ne-eqb y 3600 (c .before .if3 .left), lt-ltb (x + 900) y (omega arith))
-
-add-if5 : tie.Need-add-if5
-add-if5 c = search needs
 
 returns-5 : tie.Need-returns-5
 returns-5 c =
@@ -48,5 +42,4 @@ returns-6 c =
     rw (ne-eqb x 3600 (c .before .before .before .if1 .left), ne-eqb y 3600 (c .before .before .if3 .left), le-ltb (x + 900) y (omega arith), le-ltb (y + 900) x (omega arith))
 
 pub newer-by-age-spec : {M : Type 1} → statement M
-newer-by-age-spec =
-    tie.close (tie.spec returns returns-2 returns-3 add-if4 returns-4 add-if5 returns-5 returns-6)
+newer-by-age-spec = tie.close (tie.spec returns returns-2 returns-3 (search needs) returns-4 (search needs) returns-5 returns-6)

@@ -6,27 +6,6 @@ use borrow.Author.Needs.{needs}
 use Rattle.header.proofs.newer_lsa.Statement.{statement}
 use Rattle.header.proofs.newer_lsa.Tie as tie
 
-read-requires : tie.Need-read-requires
-read-requires c κs = search needs
-
-read-requires-2 : tie.Need-read-requires-2
-read-requires-2 c κs = search needs
-
-enum-known-x : tie.Need-enum-known-x
-enum-known-x c = search needs
-
-enum-known-x-2 : tie.Need-enum-known-x-2
-enum-known-x-2 c = search needs
-
-enum-known-y : tie.Need-enum-known-y
-enum-known-y c = search needs
-
-enum-known-y-2 : tie.Need-enum-known-y-2
-enum-known-y-2 c = search needs
-
-newer-requires : tie.Need-newer-requires
-newer-requires c κs = search needs
-
 returns : tie.Need-returns
 unfolding newnessAt
 returns c =
@@ -56,16 +35,6 @@ returns-3 c =
     c .newer .ensures ∙ ap newnessOf (sym (both-read x y _ _ e f))
 
 pub newer-lsa-spec : {M : Type 1} → statement M
-newer-lsa-spec =
-    tie.close
-    (tie.spec
-    read-requires
-    read-requires-2
-    enum-known-x
-    enum-known-x-2
-    enum-known-y
-    enum-known-y-2
-    newer-requires
-    returns
-    returns-2
-    returns-3)
+newer-lsa-spec = tie.close (tie.spec
+    (search needs) (search needs) (search needs) (search needs) (search needs) (search needs) (search needs) returns
+    returns-2 returns-3)

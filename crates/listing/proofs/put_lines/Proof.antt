@@ -20,27 +20,6 @@ abbrev μ-loop : tie.MeasureT-loop
 loop-holds : tie.Need-loop-holds Inv-loop μ-loop
 loop-holds c = begin _ _ _
 
-sub-loop : tie.Need-sub-loop Inv-loop μ-loop
-sub-loop c = search needs
-
-step-from-requires : tie.Need-step-from-requires Inv-loop μ-loop
-step-from-requires c κs = search needs
-
-enum-known-entry : tie.Need-enum-known-entry Inv-loop μ-loop
-enum-known-entry c = search needs
-
-sub-entry-line : tie.Need-sub-entry-line Inv-loop μ-loop
-sub-entry-line c = search needs
-
-part-entry-line-start : tie.Need-part-entry-line-start Inv-loop μ-loop
-part-entry-line-start c = search needs
-
-part-entry-line-end : tie.Need-part-entry-line-end Inv-loop μ-loop
-part-entry-line-end c = search needs
-
-entry-line-requires : tie.Need-entry-line-requires Inv-loop μ-loop
-entry-line-requires c κs = search needs
-
 add-length : tie.Need-add-length Inv-loop μ-loop
 add-length c =
     let x = entryMeaning (c .before .before .before .before .before .entry .given .0 .0) in
@@ -80,23 +59,6 @@ returns-2 c =
     ended _ _ _ _ _ _ (c .before .before .before .loop .inv) (λ x q e. no-entry _ (k .result) (k .ensures) (c .match .keys2) x q e)
 
 pub put-lines-spec : {M : Type 1} → statement M
-put-lines-spec =
-    tie.close
-    (tie.spec
-    Inv-loop
-    μ-loop
-    loop-holds
-    sub-loop
-    step-from-requires
-    enum-known-entry
-    sub-entry-line
-    part-entry-line-start
-    part-entry-line-end
-    entry-line-requires
-    add-length
-    loop-less
-    loop-again
-    same-length
-    returns
-    same-length-2
-    returns-2)
+put-lines-spec = tie.close (tie.spec
+    Inv-loop μ-loop loop-holds (search needs) (search needs) (search needs) (search needs) (search needs) (search needs)
+    (search needs) add-length loop-less loop-again same-length returns same-length-2 returns-2)

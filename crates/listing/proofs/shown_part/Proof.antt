@@ -7,9 +7,6 @@ use borrow.Author.Needs.{needs}
 use Rattle.listing.proofs.shown_part.Statement.{statement}
 use Rattle.listing.proofs.shown_part.Tie as tie
 
-slice-aggregate-result : tie.Need-slice-aggregate-result
-slice-aggregate-result c = search needs
-
 returns : tie.Need-returns
 unfolding shownPart
 returns c = rw (ne-eqb (c .before .before .before .args .answer .number) 0 (λ z. omega arith))
@@ -28,6 +25,4 @@ unfolding shownPart
 returns-3 c = rw (eq-eqb (c .before .before .before .before .args .answer .number) 0 (omega arith))
 
 pub shown-part-spec : {M : Type 1} → statement M
-shown-part-spec =
-    tie.close
-    (tie.spec slice-aggregate-result returns returns-2 slice-aggregate-result-2 returns-3)
+shown-part-spec = tie.close (tie.spec (search needs) returns returns-2 slice-aggregate-result-2 returns-3)

@@ -5,12 +5,6 @@ use borrow.Author.Needs.{needs}
 use Rattle.lsa_headers.proofs.measure_header.Statement.{statement}
 use Rattle.lsa_headers.proofs.measure_header.Tie as tie
 
-measure-lsa-header-fields-requires : tie.Need-measure-lsa-header-fields-requires
-measure-lsa-header-fields-requires c κs = search needs
-
-measure-lsa-header-fields-requires-2 : tie.Need-measure-lsa-header-fields-requires-2
-measure-lsa-header-fields-requires-2 c κs = search needs
-
 returns : tie.Need-returns
 returns c =
     let t = eq-eqb (c .before .before .before .args .version) 2 (c .before .if1 .taken) in
@@ -22,10 +16,4 @@ returns-2 c =
     (λ o. rw t (c .measure-lsa-header-fields2 .ensures (c .before .before .before .args .header .now) o), omega (arith, c .measure-lsa-header-fields2 .ensures (c .before .before .before .args .header .now) 0, header-bound 3 (c .before .before .before .args .header .now) 0))
 
 pub measure-header-spec : {M : Type 1} → statement M
-measure-header-spec =
-    tie.close
-    (tie.spec
-    measure-lsa-header-fields-requires
-    measure-lsa-header-fields-requires-2
-    returns
-    returns-2)
+measure-header-spec = tie.close (tie.spec (search needs) (search needs) returns returns-2)

@@ -1,3 +1,4 @@
+use borrow.Author.Needs.{needs}
 use Rattle.format.proofs.Lengths.{part-length, length-header-object}
 use Rattle.format.proofs.Sizes.{headers-bound}
 use Rattle.format.proofs.Lists.{fixed-stands}
@@ -22,9 +23,6 @@ abbrev μ-loop : tie.MeasureT-loop
 loop-holds : tie.Need-loop-holds Inv-loop μ-loop
 loop-holds c = (λ o. measure-begin (fixedRule 20) _ _ _ 0, omega arith)
 
-add-q : tie.Need-add-q Inv-loop μ-loop
-add-q c = omega arith
-
 -- the sum with the next object is no more than that of all objects
 next : (c : tie.In-loop Inv-loop μ-loop) →
     let s = c .before .before .before .args in
@@ -42,15 +40,6 @@ add-total c =
     let s = c .before .before .before .args in
     omega (arith, next c, length-header-object (s .version) (s .data .now) 0 (c .before .loop .pos) 20)
 
-sub-measure-header : tie.Need-sub-measure-header Inv-loop μ-loop
-sub-measure-header c = omega arith
-
-part-measure-header-start : tie.Need-part-measure-header-start Inv-loop μ-loop
-part-measure-header-start c = omega arith
-
-part-measure-header-end : tie.Need-part-measure-header-end Inv-loop μ-loop
-part-measure-header-end c = omega arith
-
 measure-header-requires : tie.Need-measure-header-requires Inv-loop μ-loop
 measure-header-requires c κs =
     let p = c .before .before .loop .pos in
@@ -65,12 +54,6 @@ add-total-2 c =
     let q : p + 20 - p ≡ 20 = omega arith in
     let m = rw q at (c .measure-header .ensures .0) in
     omega (arith, next (c .before .before), length-header-object (s .version) (s .data .now) 0 p 20, m (0 + p))
-
-sub-left : tie.Need-sub-left Inv-loop μ-loop
-sub-left c = omega arith
-
-loop-less : tie.Need-loop-less Inv-loop μ-loop
-loop-less c = omega arith
 
 loop-again : tie.Need-loop-again Inv-loop μ-loop
 loop-again c =
@@ -95,20 +78,6 @@ returns c =
     (λ o. measure-finish (fixedRule 20) _ _ _ 0 (c .before .loop .inv .0 o) (rw z refl) .0, omega (arith, f .0, headers-bound (s .version) (s .data .now) 0 (s .count)))
 
 pub measure-headers-spec : {M : Type 1} → statement M
-measure-headers-spec =
-    tie.close
-    (tie.spec
-    Inv-loop
-    μ-loop
-    loop-holds
-    add-q
-    add-total
-    sub-measure-header
-    part-measure-header-start
-    part-measure-header-end
-    measure-header-requires
-    add-total-2
-    sub-left
-    loop-less
-    loop-again
-    returns)
+measure-headers-spec = tie.close (tie.spec
+    Inv-loop μ-loop loop-holds (search needs) add-total (search needs) (search needs) (search needs)
+    measure-header-requires add-total-2 (search needs) (search needs) loop-again returns)

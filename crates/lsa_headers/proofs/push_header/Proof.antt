@@ -11,15 +11,6 @@ use borrow.Author.Needs.{needs}
 use Rattle.lsa_headers.proofs.push_header.Statement.{statement}
 use Rattle.lsa_headers.proofs.push_header.Tie as tie
 
-add-q : tie.Need-add-q
-add-q c = search needs
-
-cast-start : tie.Need-cast-start
-cast-start c = search needs
-
-add-start : tie.Need-add-start
-add-start c = search needs
-
 begin-container-at-requires : tie.Need-begin-container-at-requires
 unfolding code
 begin-container-at-requires c κs =
@@ -28,15 +19,6 @@ begin-container-at-requires c κs =
     let l = length-header-object (s .args .version) d (s .args .o) (s .args .pos) 20 in
     let n = part-length d (s .args .pos) 20 (omega arith) in
     omega arith
-
-sub-push-header-fields : tie.Need-sub-push-header-fields
-sub-push-header-fields c = search needs
-
-part-push-header-fields-start : tie.Need-part-push-header-fields-start
-part-push-header-fields-start c = search needs
-
-part-push-header-fields-end : tie.Need-part-push-header-fields-end
-part-push-header-fields-end c = search needs
 
 push-header-fields-requires : tie.Need-push-header-fields-requires
 unfolding code
@@ -59,9 +41,6 @@ end-container-requires c κs =
     let w = rw q at (c .before .before .before .push-header-fields .ensures) in
     omega (arith, w .place, kept w)
 
-same-length : tie.Need-same-length
-same-length c = search needs
-
 returns : tie.Need-returns
 unfolding headerObject
 returns c =
@@ -71,17 +50,6 @@ returns c =
     contained 112 _ _ _ w (rw q at (c .before .before .before .before .before .before .push-header-fields .ensures)) (c .before .before .end-container .ensures)
 
 pub push-header-spec : {M : Type 1} → statement M
-push-header-spec =
-    tie.close
-    (tie.spec
-    add-q
-    cast-start
-    add-start
-    begin-container-at-requires
-    sub-push-header-fields
-    part-push-header-fields-start
-    part-push-header-fields-end
-    push-header-fields-requires
-    end-container-requires
-    same-length
-    returns)
+push-header-spec = tie.close (tie.spec
+    (search needs) (search needs) (search needs) begin-container-at-requires (search needs) (search needs)
+    (search needs) push-header-fields-requires end-container-requires (search needs) returns)

@@ -8,15 +8,6 @@ use borrow.Author.Needs.{needs}
 use Rattle.lsa_headers.proofs.push_header_fields.Statement.{statement}
 use Rattle.lsa_headers.proofs.push_header_fields.Tie as tie
 
-sub-push-lsa-header-fields : tie.Need-sub-push-lsa-header-fields
-sub-push-lsa-header-fields c = search needs
-
-part-push-lsa-header-fields-start : tie.Need-part-push-lsa-header-fields-start
-part-push-lsa-header-fields-start c = search needs
-
-part-push-lsa-header-fields-end : tie.Need-part-push-lsa-header-fields-end
-part-push-lsa-header-fields-end c = search needs
-
 push-lsa-header-fields-requires : tie.Need-push-lsa-header-fields-requires
 push-lsa-header-fields-requires c κs =
     let s = c .before .before .before .before in
@@ -30,15 +21,6 @@ add-result c =
     let t = eq-eqb (s .args .version) 2 (c .before .before .before .before .if1 .taken) in
     let h = rw t at (s .pre .0) in
     omega (arith, c .before .before .push-lsa-header-fields .ensures .place)
-
-sub-push-lsa-header-fields-2 : tie.Need-sub-push-lsa-header-fields-2
-sub-push-lsa-header-fields-2 c = search needs
-
-part-push-lsa-header-fields-start-2 : tie.Need-part-push-lsa-header-fields-start-2
-part-push-lsa-header-fields-start-2 c = search needs
-
-part-push-lsa-header-fields-end-2 : tie.Need-part-push-lsa-header-fields-end-2
-part-push-lsa-header-fields-end-2 c = search needs
 
 push-lsa-header-fields-requires-2 : tie.Need-push-lsa-header-fields-requires-2
 push-lsa-header-fields-requires-2 c κs =
@@ -54,17 +36,11 @@ add-result-2 c =
     let h = rw t at (s .pre .0) in
     omega (arith, c .before .before .push-lsa-header-fields2 .ensures .place)
 
-same-length : tie.Need-same-length
-same-length c = search needs
-
 returns : tie.Need-returns
 returns c =
     let s = c .before .before .before .before .before .before .before in
     let t = eq-eqb (s .args .version) 2 (c .before .before .before .before .if1 .taken) in
     rw t (lent (rw t at (s .pre .0)) (c .before .before .push-lsa-header-fields .ensures))
-
-same-length-2 : tie.Need-same-length-2
-same-length-2 c = search needs
 
 returns-2 : tie.Need-returns-2
 returns-2 c =
@@ -73,20 +49,7 @@ returns-2 c =
     rw t (lent (rw t at (s .pre .0)) (c .before .before .push-lsa-header-fields2 .ensures))
 
 pub push-header-fields-spec : {M : Type 1} → statement M
-push-header-fields-spec =
-    tie.close
-    (tie.spec
-    sub-push-lsa-header-fields
-    part-push-lsa-header-fields-start
-    part-push-lsa-header-fields-end
-    push-lsa-header-fields-requires
-    add-result
-    sub-push-lsa-header-fields-2
-    part-push-lsa-header-fields-start-2
-    part-push-lsa-header-fields-end-2
-    push-lsa-header-fields-requires-2
-    add-result-2
-    same-length
-    returns
-    same-length-2
+push-header-fields-spec = tie.close (tie.spec
+    (search needs) (search needs) (search needs) push-lsa-header-fields-requires add-result (search needs)
+    (search needs) (search needs) push-lsa-header-fields-requires-2 add-result-2 (search needs) returns (search needs)
     returns-2)

@@ -17,12 +17,6 @@ use borrow.Author.Needs.{needs}
 use Rattle.lsa_headers.proofs.push_lsa_headers.Statement.{statement}
 use Rattle.lsa_headers.proofs.push_lsa_headers.Tie as tie
 
-refusal-of-requires : tie.Need-refusal-of-requires
-refusal-of-requires c κs = search needs
-
-refused-requires : tie.Need-refused-requires
-refused-requires c κs = search needs
-
 returns : tie.Need-returns
 unfolding headersOf
 returns c =
@@ -36,9 +30,6 @@ returns c =
     let w = walk-refused n (outer v (headerObject v d o) d o 0 (headers d)) (length (headers d)) (length d - after 0 (headers d)) before (λ x. c .before .if1 .taken (e ∙ x)) in
     let f = ap (λ (a : Answer). a .length) (c .refused .ensures) in
     (rw (w .0, sym e) (c .refused .ensures), (sym (w .1), omega arith))
-
-mul-end : tie.Need-mul-end
-mul-end c = search needs
 
 measure-headers-requires : tie.Need-measure-headers-requires
 measure-headers-requires c κs =
@@ -66,9 +57,6 @@ add-length c =
     let m = limits v d o 0 z in
     omega arith
 
-measure-unparsed-requires : tie.Need-measure-unparsed-requires
-measure-unparsed-requires c κs = search needs
-
 -- the lengths that are added are those of the whole strip, and their sum is bounded
 whole : (c : tie.After-measure-unparsed) →
     let s = c .before .before .before .before .before .before .args in
@@ -87,9 +75,6 @@ whole c =
 
 add-length-2 : tie.Need-add-length-2
 add-length-2 c = let w = whole c in omega arith
-
-no-room-requires : tie.Need-no-room-requires
-no-room-requires c κs = search needs
 
 returns-2 : tie.Need-returns-2
 unfolding headersOf
@@ -135,12 +120,6 @@ write-headers-requires c κs =
     let size = whole (c .before .before) in
     omega arith
 
-sub-t10 : tie.Need-sub-t10
-sub-t10 c = search needs
-
-same-length : tie.Need-same-length
-same-length c = search needs
-
 returns-3 : tie.Need-returns-3
 unfolding headersOf
 returns-3 c =
@@ -160,21 +139,6 @@ returns-3 c =
     (rw (w .0, ← size .0, rc, headers-after d (length d / 20) refl) refl, (c .before .before .write-headers .ensures .contents ∙ sym (w .1), omega arith))
 
 pub push-lsa-headers-spec : {M : Type 1} → statement M
-push-lsa-headers-spec =
-    tie.close
-    (tie.spec
-    refusal-of-requires
-    refused-requires
-    returns
-    mul-end
-    measure-headers-requires
-    add-length
-    measure-unparsed-requires
-    add-length-2
-    no-room-requires
-    returns-2
-    cast-write-headers
-    write-headers-requires
-    sub-t10
-    same-length
-    returns-3)
+push-lsa-headers-spec = tie.close (tie.spec
+    (search needs) (search needs) returns (search needs) measure-headers-requires add-length (search needs) add-length-2
+    (search needs) returns-2 cast-write-headers write-headers-requires (search needs) (search needs) returns-3)

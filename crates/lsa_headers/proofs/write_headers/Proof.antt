@@ -14,15 +14,6 @@ use borrow.Author.Needs.{needs}
 use Rattle.lsa_headers.proofs.write_headers.Statement.{statement}
 use Rattle.lsa_headers.proofs.write_headers.Tie as tie
 
-mul-end : tie.Need-mul-end
-mul-end c = search needs
-
-cast-begin-container : tie.Need-cast-begin-container
-cast-begin-container c = search needs
-
-add-begin-container : tie.Need-add-begin-container
-add-begin-container c = search needs
-
 begin-container-requires : tie.Need-begin-container-requires
 begin-container-requires c κs =
     let s = c .before .before .before in
@@ -60,9 +51,6 @@ end-container-requires c κs =
     let m = ap (λ (ss : List Span). length (encode (flatMap (headerObject v d o) ss))) k in
     omega arith
 
-unparsed-id-requires : tie.Need-unparsed-id-requires
-unparsed-id-requires c κs = search needs
-
 push-unparsed-requires : tie.Need-push-unparsed-requires
 unfolding code
 push-unparsed-requires c κs =
@@ -78,9 +66,6 @@ push-unparsed-requires c κs =
     let u = ap (λ (i : ℕ). length (encode (leftover i d o (s .args .count * 20)))) (c .unparsed-id .ensures) in
     omega arith
 
-same-length : tie.Need-same-length
-same-length c = search needs
-
 returns : tie.Need-returns
 returns c =
     let s = c .before .before .before .before .before .before .before .before .before .before .before .before .before .before .before .before .before .before .before in
@@ -93,16 +78,6 @@ returns c =
     outer-wrote v (headerObject v d o) d o 0 (headers d) (omega arith) (ap (λ (x : ℕ). o + x) e) (sym (c .before .before .before .unparsed-id .ensures)) e (c .before .before .before .before .before .before .before .before .before .before .before .before .before .before .before .begin-container .ensures) (rw k (c .before .before .before .before .before .before .before .before .before .before .before .push-headers .ensures)) (c .before .before .before .before .before .before .before .end-container .ensures) (c .before .before .push-unparsed .ensures)
 
 pub write-headers-spec : {M : Type 1} → statement M
-write-headers-spec =
-    tie.close
-    (tie.spec
-    mul-end
-    cast-begin-container
-    add-begin-container
-    begin-container-requires
-    push-headers-requires
-    end-container-requires
-    unparsed-id-requires
-    push-unparsed-requires
-    same-length
-    returns)
+write-headers-spec = tie.close (tie.spec
+    (search needs) (search needs) (search needs) begin-container-requires push-headers-requires end-container-requires
+    (search needs) push-unparsed-requires (search needs) returns)

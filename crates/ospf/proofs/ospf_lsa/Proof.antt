@@ -2,17 +2,11 @@ use borrow.Author.Needs.{needs}
 use Rattle.ospf.proofs.ospf_lsa.Statement.{statement}
 use Rattle.ospf.proofs.ospf_lsa.Tie as tie
 
-push-lsa-requires : tie.Need-push-lsa-requires
-push-lsa-requires c κs = search needs
-
 pack-requires : tie.Need-pack-requires
 pack-requires c κs = c .before .before .push-lsa .ensures .1 .1
-
-same-length : tie.Need-same-length
-same-length c = search needs
 
 returns : tie.Need-returns
 returns c = (rw (c .before .before .before .push-lsa .ensures .0) at (c .pack .ensures), c .before .before .before .push-lsa .ensures .1 .0)
 
 pub ospf-lsa-spec : {M : Type 1} → statement M
-ospf-lsa-spec = tie.close (tie.spec push-lsa-requires pack-requires same-length returns)
+ospf-lsa-spec = tie.close (tie.spec (search needs) pack-requires (search needs) returns)

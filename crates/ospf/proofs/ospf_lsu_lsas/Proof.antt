@@ -2,17 +2,11 @@ use borrow.Author.Needs.{needs}
 use Rattle.ospf.proofs.ospf_lsu_lsas.Statement.{statement}
 use Rattle.ospf.proofs.ospf_lsu_lsas.Tie as tie
 
-push-lsu-lsas-requires : tie.Need-push-lsu-lsas-requires
-push-lsu-lsas-requires c κs = search needs
-
 pack-requires : tie.Need-pack-requires
 pack-requires c κs = c .before .before .push-lsu-lsas .ensures .1 .1
-
-same-length : tie.Need-same-length
-same-length c = search needs
 
 returns : tie.Need-returns
 returns c = (rw (c .before .before .before .push-lsu-lsas .ensures .0) at (c .pack .ensures), c .before .before .before .push-lsu-lsas .ensures .1 .0)
 
 pub ospf-lsu-lsas-spec : {M : Type 1} → statement M
-ospf-lsu-lsas-spec = tie.close (tie.spec push-lsu-lsas-requires pack-requires same-length returns)
+ospf-lsu-lsas-spec = tie.close (tie.spec (search needs) pack-requires (search needs) returns)

@@ -13,23 +13,11 @@ use Rattle.print.proofs.answer_line.Tie as tie
 returns : tie.Need-returns
 returns c = rw (lt-ltb (length (c .before .before .args .out .now)) lineRoom (omega arith)) (nothing _ _, (omega arith, refl))
 
-put-ok-requires : tie.Need-put-ok-requires
-put-ok-requires c κs = search needs
-
-put-refused-requires : tie.Need-put-refused-requires
-put-refused-requires c κs = search needs
-
-same-length : tie.Need-same-length
-same-length c = search needs
-
 returns-2 : tie.Need-returns-2
 returns-2 c =
     let w = c .before .before .put-ok .ensures in
     let l = first-fits (answerMeaning (c .before .before .before .before .before .before .before .before .args .answer)) in
     rw (le-ltb (length (c .before .before .before .before .before .before .before .before .args .out .now)) lineRoom (omega arith)) (w, lendable w l (omega arith))
-
-same-length-2 : tie.Need-same-length-2
-same-length-2 c = search needs
 
 returns-3 : tie.Need-returns-3
 returns-3 c =
@@ -38,13 +26,4 @@ returns-3 c =
     rw (le-ltb (length (c .before .before .before .before .before .before .before .before .args .out .now)) lineRoom (omega arith)) (w, lendable w l (omega arith))
 
 pub answer-line-spec : {M : Type 1} → statement M
-answer-line-spec =
-    tie.close
-    (tie.spec
-    returns
-    put-ok-requires
-    put-refused-requires
-    same-length
-    returns-2
-    same-length-2
-    returns-3)
+answer-line-spec = tie.close (tie.spec returns (search needs) (search needs) (search needs) returns-2 (search needs) returns-3)

@@ -13,12 +13,6 @@ use Rattle.print.proofs.entry_line.Tie as tie
 returns : tie.Need-returns
 returns c = rw (lt-ltb (length (c .before .before .args .out .now)) lineRoom (omega arith)) (nothing _ _, (omega arith, refl))
 
-put-line-requires : tie.Need-put-line-requires
-put-line-requires c κs = search needs
-
-same-length : tie.Need-same-length
-same-length c = search needs
-
 returns-2 : tie.Need-returns-2
 returns-2 c =
     let w = c .before .before .put-line .ensures in
@@ -26,4 +20,4 @@ returns-2 c =
     rw (le-ltb (length (c .before .before .before .before .before .before .args .out .now)) lineRoom (omega arith)) (w, lendable w l (omega arith))
 
 pub entry-line-spec : {M : Type 1} → statement M
-entry-line-spec = tie.close (tie.spec returns put-line-requires same-length returns-2)
+entry-line-spec = tie.close (tie.spec returns (search needs) (search needs) returns-2)

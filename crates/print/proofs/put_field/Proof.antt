@@ -5,15 +5,6 @@ use borrow.Author.Needs.{needs}
 use Rattle.print.proofs.put_field.Statement.{statement}
 use Rattle.print.proofs.put_field.Tie as tie
 
-put-word-requires : tie.Need-put-word-requires
-put-word-requires c κs = search needs
-
-put-place-requires : tie.Need-put-place-requires
-put-place-requires c κs = search needs
-
-same-length : tie.Need-same-length
-same-length c = search needs
-
 returns : tie.Need-returns
 returns c =
     let a = c .before .before .before .before .before .before .before .before .before .before .args in
@@ -23,4 +14,4 @@ returns c =
     (then w x, omega (arith, w .place, x .place))
 
 pub put-field-spec : {M : Type 1} → statement M
-put-field-spec = tie.close (tie.spec put-word-requires put-place-requires same-length returns)
+put-field-spec = tie.close (tie.spec (search needs) (search needs) (search needs) returns)

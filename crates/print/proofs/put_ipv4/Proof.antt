@@ -5,18 +5,6 @@ use borrow.Author.Needs.{needs}
 use Rattle.print.proofs.put_ipv4.Statement.{statement}
 use Rattle.print.proofs.put_ipv4.Tie as tie
 
-slice-aggregate-put-field : tie.Need-slice-aggregate-put-field
-slice-aggregate-put-field c = search needs
-
-put-field-requires : tie.Need-put-field-requires
-put-field-requires c κs = search needs
-
-put-u8-requires : tie.Need-put-u8-requires
-put-u8-requires c κs = search needs
-
-put-dotted-requires : tie.Need-put-dotted-requires
-put-dotted-requires c κs = search needs
-
 put-u8-requires-2 : tie.Need-put-u8-requires-2
 put-u8-requires-2 c κs =
     let w = c .before .before .before .before .before .before .before .before .before .before .before .put-field .ensures in
@@ -28,20 +16,8 @@ put-u8-requires-2 c κs =
     let i = kept y in
     omega (arith, x .place, y .place)
 
-same-length : tie.Need-same-length
-same-length c = search needs
-
 returns : tie.Need-returns
 returns c = then (then (c .before .before .before .before .before .before .before .before .before .before .before .before .before .before .put-field .ensures .0) (then (c .before .before .before .before .before .before .before .before .before .before .put-u8 .ensures) (c .before .before .before .before .before .before .put-dotted .ensures))) (c .before .before .put-u82 .ensures)
 
 pub put-ipv4-spec : {M : Type 1} → statement M
-put-ipv4-spec =
-    tie.close
-    (tie.spec
-    slice-aggregate-put-field
-    put-field-requires
-    put-u8-requires
-    put-dotted-requires
-    put-u8-requires-2
-    same-length
-    returns)
+put-ipv4-spec = tie.close (tie.spec (search needs) (search needs) (search needs) (search needs) put-u8-requires-2 (search needs) returns)

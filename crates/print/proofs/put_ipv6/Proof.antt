@@ -5,18 +5,6 @@ use borrow.Author.Needs.{needs}
 use Rattle.print.proofs.put_ipv6.Statement.{statement}
 use Rattle.print.proofs.put_ipv6.Tie as tie
 
-slice-aggregate-put-field : tie.Need-slice-aggregate-put-field
-slice-aggregate-put-field c = search needs
-
-put-field-requires : tie.Need-put-field-requires
-put-field-requires c κs = search needs
-
-put-u8-requires : tie.Need-put-u8-requires
-put-u8-requires c κs = search needs
-
-put-hex-requires : tie.Need-put-hex-requires
-put-hex-requires c κs = search needs
-
 put-hex-requires-2 : tie.Need-put-hex-requires-2
 put-hex-requires-2 c κs =
     let w = c .before .before .before .before .before .before .before .before .before .before .before .put-field .ensures in
@@ -43,9 +31,6 @@ put-u8-requires-2 c κs =
     let j = kept z in
     omega (arith, x .place, y .place, z .place)
 
-same-length : tie.Need-same-length
-same-length c = search needs
-
 returns : tie.Need-returns
 returns c =
     let w = c .before .before .before .before .before .before .before .before .before .before .before .before .before .before .before .before .before .before .put-field .ensures .0 in
@@ -55,14 +40,6 @@ returns c =
     then (then w (then x (then y z))) (c .before .before .put-u82 .ensures)
 
 pub put-ipv6-spec : {M : Type 1} → statement M
-put-ipv6-spec =
-    tie.close
-    (tie.spec
-    slice-aggregate-put-field
-    put-field-requires
-    put-u8-requires
-    put-hex-requires
-    put-hex-requires-2
-    put-u8-requires-2
-    same-length
+put-ipv6-spec = tie.close (tie.spec
+    (search needs) (search needs) (search needs) (search needs) put-hex-requires-2 put-u8-requires-2 (search needs)
     returns)

@@ -5,12 +5,6 @@ use borrow.Author.Needs.{needs}
 use Rattle.print.proofs.put_number.Statement.{statement}
 use Rattle.print.proofs.put_number.Tie as tie
 
-put-field-requires : tie.Need-put-field-requires
-put-field-requires c κs = search needs
-
-put-spaced-requires : tie.Need-put-spaced-requires
-put-spaced-requires c κs = search needs
-
 put-u8-requires : tie.Need-put-u8-requires
 put-u8-requires c κs =
     let w = c .before .before .before .before .before .before .before .put-field .ensures in
@@ -20,12 +14,8 @@ put-u8-requires c κs =
     let h = kept x in
     omega (arith, x .place)
 
-same-length : tie.Need-same-length
-same-length c = search needs
-
 returns : tie.Need-returns
 returns c = then (then (c .before .before .before .before .before .before .before .before .before .before .put-field .ensures .0) (c .before .before .before .before .before .before .put-spaced .ensures)) (c .before .before .put-u8 .ensures)
 
 pub put-number-spec : {M : Type 1} → statement M
-put-number-spec =
-    tie.close (tie.spec put-field-requires put-spaced-requires put-u8-requires same-length returns)
+put-number-spec = tie.close (tie.spec (search needs) (search needs) put-u8-requires (search needs) returns)

@@ -8,15 +8,6 @@ use borrow.Author.Needs.{needs}
 use Rattle.print.proofs.put_ok.Statement.{statement}
 use Rattle.print.proofs.put_ok.Tie as tie
 
-slice-aggregate-put-word : tie.Need-slice-aggregate-put-word
-slice-aggregate-put-word c = search needs
-
-put-word-requires : tie.Need-put-word-requires
-put-word-requires c κs = search needs
-
-put-spaced-requires : tie.Need-put-spaced-requires
-put-spaced-requires c κs = search needs
-
 put-spaced-requires-2 : tie.Need-put-spaced-requires-2
 put-spaced-requires-2 c κs =
     let w = c .before .before .before .before .before .before .before .put-word .ensures in
@@ -55,9 +46,6 @@ put-u8-requires c κs =
     let j = kept z in
     omega (arith, w .place, x .place, y .place, z .place)
 
-same-length : tie.Need-same-length
-same-length c = search needs
-
 returns : tie.Need-returns
 unfolding firstLine
 returns c =
@@ -69,14 +57,6 @@ returns c =
     rw (eq-eqb _ _ e) (then w (then x (then y (then z (c .before .before .put-u8 .ensures)))))
 
 pub put-ok-spec : {M : Type 1} → statement M
-put-ok-spec =
-    tie.close
-    (tie.spec
-    slice-aggregate-put-word
-    put-word-requires
-    put-spaced-requires
-    put-spaced-requires-2
-    put-spaced-requires-3
-    put-u8-requires
-    same-length
-    returns)
+put-ok-spec = tie.close (tie.spec
+    (search needs) (search needs) (search needs) put-spaced-requires-2 put-spaced-requires-3 put-u8-requires
+    (search needs) returns)

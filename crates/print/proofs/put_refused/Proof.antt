@@ -7,18 +7,6 @@ use borrow.Author.Needs.{needs}
 use Rattle.print.proofs.put_refused.Statement.{statement}
 use Rattle.print.proofs.put_refused.Tie as tie
 
-slice-aggregate-put-word : tie.Need-slice-aggregate-put-word
-slice-aggregate-put-word c = search needs
-
-put-word-requires : tie.Need-put-word-requires
-put-word-requires c κs = search needs
-
-cast-put-spaced : tie.Need-cast-put-spaced
-cast-put-spaced c = search needs
-
-put-spaced-requires : tie.Need-put-spaced-requires
-put-spaced-requires c κs = search needs
-
 put-spaced-requires-2 : tie.Need-put-spaced-requires-2
 put-spaced-requires-2 c κs =
     let w = c .before .before .before .before .before .before .before .before .put-word .ensures in
@@ -41,9 +29,6 @@ put-u8-requires c κs =
     let i = kept y in
     omega (arith, w .place, x .place, y .place)
 
-same-length : tie.Need-same-length
-same-length c = search needs
-
 returns : tie.Need-returns
 unfolding firstLine
 returns c =
@@ -53,14 +38,6 @@ returns c =
     rw (ne-eqb (c .before .before .before .before .before .before .before .before .before .before .before .before .before .before .before .before .before .before .before .args .answer .number) 0 (λ z. omega arith)) (then w (then x (then y (c .before .before .put-u8 .ensures))))
 
 pub put-refused-spec : {M : Type 1} → statement M
-put-refused-spec =
-    tie.close
-    (tie.spec
-    slice-aggregate-put-word
-    put-word-requires
-    cast-put-spaced
-    put-spaced-requires
-    put-spaced-requires-2
-    put-u8-requires
-    same-length
+put-refused-spec = tie.close (tie.spec
+    (search needs) (search needs) (search needs) (search needs) put-spaced-requires-2 put-u8-requires (search needs)
     returns)

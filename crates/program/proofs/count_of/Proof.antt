@@ -8,11 +8,8 @@ use Rattle.program.proofs.count_of.Tie as tie
 returns : tie.Need-returns
 returns c = rw (lt-ltb (length (c .before .before .args .«data» .now)) 4 (omega arith))
 
-read-be-u32-requires : tie.Need-read-be-u32-requires
-read-be-u32-requires c κs = search needs
-
 returns-2 : tie.Need-returns-2
 returns-2 c = rw (le-ltb (length (c .before .before .before .args .«data» .now)) 4 (omega arith)) (c .read-be-u32 .ensures)
 
 pub count-of-spec : {M : Type 1} → statement M
-count-of-spec = tie.close (tie.spec returns read-be-u32-requires returns-2)
+count-of-spec = tie.close (tie.spec returns (search needs) returns-2)

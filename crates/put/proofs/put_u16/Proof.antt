@@ -4,15 +4,6 @@ use borrow.Author.Needs.{needs}
 use Rattle.put.proofs.put_u16.Statement.{statement}
 use Rattle.put.proofs.put_u16.Tie as tie
 
-swap-u16-requires : tie.Need-swap-u16-requires
-swap-u16-requires c κs = search needs
-
-put-le16-requires : tie.Need-put-le16-requires
-put-le16-requires c κs = search needs
-
-same-length : tie.Need-same-length
-same-length c = search needs
-
 returns : tie.Need-returns
 returns c =
     let x = c .before .before .before .before .before .before .args .x in
@@ -20,4 +11,4 @@ returns c =
     written-as (swapped16 x (omega arith)) w
 
 pub put-u16-spec : {M : Type 1} → statement M
-put-u16-spec = tie.close (tie.spec swap-u16-requires put-le16-requires same-length returns)
+put-u16-spec = tie.close (tie.spec (search needs) (search needs) (search needs) returns)

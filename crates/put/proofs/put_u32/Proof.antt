@@ -4,15 +4,6 @@ use borrow.Author.Needs.{needs}
 use Rattle.put.proofs.put_u32.Statement.{statement}
 use Rattle.put.proofs.put_u32.Tie as tie
 
-swap-u32-requires : tie.Need-swap-u32-requires
-swap-u32-requires c κs = search needs
-
-put-le32-requires : tie.Need-put-le32-requires
-put-le32-requires c κs = search needs
-
-same-length : tie.Need-same-length
-same-length c = search needs
-
 returns : tie.Need-returns
 returns c =
     let x = c .before .before .before .before .before .before .args .x in
@@ -20,4 +11,4 @@ returns c =
     written-as (swapped32 x (omega arith)) w
 
 pub put-u32-spec : {M : Type 1} → statement M
-put-u32-spec = tie.close (tie.spec swap-u32-requires put-le32-requires same-length returns)
+put-u32-spec = tie.close (tie.spec (search needs) (search needs) (search needs) returns)

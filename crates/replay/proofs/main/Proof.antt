@@ -1,5 +1,5 @@
+use borrow.Author.Needs.{needs}
 use Prim.Native.Nat.{_-_}
-use native.Mathlib.Omega.{arith}
 use Rattle.replay.proofs.main.Statement.{statement}
 use Rattle.replay.proofs.main.Tie as tie
 
@@ -18,12 +18,6 @@ loop-holds c = tt
 replay-argument-requires : tie.Need-replay-argument-requires Inv-loop μ-loop
 replay-argument-requires c κs = tt
 
-add-i : tie.Need-add-i Inv-loop μ-loop
-add-i c = omega arith
-
-loop-less : tie.Need-loop-less Inv-loop μ-loop
-loop-less c = omega arith
-
 loop-again : tie.Need-loop-again Inv-loop μ-loop
 loop-again c = tt
 
@@ -31,15 +25,6 @@ returns : tie.Need-returns Inv-loop μ-loop
 returns c = tt
 
 pub main-spec : {M : Type 1} → statement M
-main-spec =
-    tie.close
-    (tie.spec
-    Inv-loop
-    μ-loop
-    arg-count-requires
-    loop-holds
-    replay-argument-requires
-    add-i
-    loop-less
-    loop-again
+main-spec = tie.close (tie.spec
+    Inv-loop μ-loop arg-count-requires loop-holds replay-argument-requires (search needs) (search needs) loop-again
     returns)

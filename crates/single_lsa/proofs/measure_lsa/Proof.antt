@@ -5,12 +5,6 @@ use borrow.Author.Needs.{needs}
 use Rattle.single_lsa.proofs.measure_lsa.Statement.{statement}
 use Rattle.single_lsa.proofs.measure_lsa.Tie as tie
 
-measure-lsa-requires : tie.Need-measure-lsa-requires
-measure-lsa-requires c κs = search needs
-
-measure-lsa-requires-2 : tie.Need-measure-lsa-requires-2
-measure-lsa-requires-2 c κs = search needs
-
 returns : tie.Need-returns
 returns c =
     let t = eq-eqb (c .before .before .before .args .version) 2 (c .before .if1 .taken) in
@@ -24,5 +18,4 @@ returns-2 c =
     (λ o. rw t (c .measure-lsa2 .ensures .0 o), (rw t (c .measure-lsa2 .ensures .1), omega (arith, c .measure-lsa2 .ensures .0 0, lsa-bound3 d 0 (omega arith))))
 
 pub measure-lsa-spec : {M : Type 1} → statement M
-measure-lsa-spec =
-    tie.close (tie.spec measure-lsa-requires measure-lsa-requires-2 returns returns-2)
+measure-lsa-spec = tie.close (tie.spec (search needs) (search needs) returns returns-2)

@@ -8,12 +8,6 @@ use borrow.Author.Needs.{needs}
 use Rattle.single_lsa.proofs.push_lsa.Statement.{statement}
 use Rattle.single_lsa.proofs.push_lsa.Tie as tie
 
-refusal-of-requires : tie.Need-refusal-of-requires
-refusal-of-requires c κs = search needs
-
-refused-requires : tie.Need-refused-requires
-refused-requires c κs = search needs
-
 returns : tie.Need-returns
 unfolding lsaOf
 returns c =
@@ -40,9 +34,6 @@ measure-lsa-requires c κs =
     let z : refusal v d o 20 ≡ 0 = sym e ∙ c .if1 .left in
     let m = limits v d o 20 z in
     omega arith
-
-no-room-requires : tie.Need-no-room-requires
-no-room-requires c κs = search needs
 
 returns-2 : tie.Need-returns-2
 unfolding lsaOf
@@ -88,9 +79,6 @@ push-lsa-fields-requires c κs =
     let size = c .before .before .measure-lsa .ensures .0 o in
     omega arith
 
-same-length : tie.Need-same-length
-same-length c = search needs
-
 returns-3 : tie.Need-returns-3
 unfolding lsaOf
 returns-3 c =
@@ -108,16 +96,6 @@ returns-3 c =
     (rw (w .0, ← size, c .before .before .before .before .before .measure-lsa .ensures .1 .0) refl, (c .before .before .push-lsa-fields .ensures .contents ∙ sym (w .1), omega (arith, lsa-size v d o (m .enough) (m .data-fits))))
 
 pub push-lsa-spec : {M : Type 1} → statement M
-push-lsa-spec =
-    tie.close
-    (tie.spec
-    refusal-of-requires
-    refused-requires
-    returns
-    measure-lsa-requires
-    no-room-requires
-    returns-2
-    cast-push-lsa-fields
-    push-lsa-fields-requires
-    same-length
-    returns-3)
+push-lsa-spec = tie.close (tie.spec
+    (search needs) (search needs) returns measure-lsa-requires (search needs) returns-2 cast-push-lsa-fields
+    push-lsa-fields-requires (search needs) returns-3)

@@ -16,16 +16,10 @@ push-lsa-requires-2 c κs =
     let h = rw t at (c .before .before .before .before .pre .0) in
     omega arith
 
-same-length : tie.Need-same-length
-same-length c = search needs
-
 returns : tie.Need-returns
 returns c =
     let t = eq-eqb (c .before .before .before .before .before .before .before .args .version) 2 (c .before .before .before .before .if1 .taken) in
     rw t (c .before .before .push-lsa .ensures)
-
-same-length-2 : tie.Need-same-length-2
-same-length-2 c = search needs
 
 returns-2 : tie.Need-returns-2
 returns-2 c =
@@ -33,6 +27,4 @@ returns-2 c =
     rw t (c .before .before .push-lsa2 .ensures)
 
 pub push-lsa-fields-spec : {M : Type 1} → statement M
-push-lsa-fields-spec =
-    tie.close
-    (tie.spec push-lsa-requires push-lsa-requires-2 same-length returns same-length-2 returns-2)
+push-lsa-fields-spec = tie.close (tie.spec push-lsa-requires push-lsa-requires-2 (search needs) returns (search needs) returns-2)

@@ -11,50 +11,26 @@ returns c = rw (c .if1 .taken)
 shared-slice-read-id : tie.Need-shared-slice-read-id
 shared-slice-read-id c = let s = c .before .before .before in let n = nine (s .args .kind) (s .pre .1) (c .before .if1 .left) in omega arith
 
-add-read-be-u32 : tie.Need-add-read-be-u32
-add-read-be-u32 c = search needs
-
 read-be-u32-requires : tie.Need-read-be-u32-requires
 read-be-u32-requires c κs = let s = c .before .before .before in let n = nine (s .args .kind) (s .pre .1) (c .before .if1 .left) in omega arith
-
-add-read-be-u32-2 : tie.Need-add-read-be-u32-2
-add-read-be-u32-2 c = search needs
 
 read-be-u32-requires-2 : tie.Need-read-be-u32-requires-2
 read-be-u32-requires-2 c κs = let s = c .before .before .before .before in let n = nine (s .args .kind) (s .pre .1) (c .before .before .if1 .left) in omega arith
 
-add-t12 : tie.Need-add-t12
-add-t12 c = search needs
-
 shared-slice-read-t14 : tie.Need-shared-slice-read-t14
 shared-slice-read-t14 c = let h = rw (c .before .match .keys2) at (c .before .before .before .before .before .before .before .pre .0) in omega arith
-
-add-read-be-u16 : tie.Need-add-read-be-u16
-add-read-be-u16 c = search needs
 
 read-be-u16-requires : tie.Need-read-be-u16-requires
 read-be-u16-requires c κs = let h = rw (c .match .keys3) at (c .before .before .before .before .before .before .pre .0) in omega arith
 
-add-read-be-u32-3 : tie.Need-add-read-be-u32-3
-add-read-be-u32-3 c = search needs
-
 read-be-u32-requires-3 : tie.Need-read-be-u32-requires-3
 read-be-u32-requires-3 c κs = let h = rw (c .match .keys4) at (c .before .before .before .before .before .before .pre .0) in omega arith
-
-add-read-be-u32-4 : tie.Need-add-read-be-u32-4
-add-read-be-u32-4 c = search needs
 
 read-be-u32-requires-4 : tie.Need-read-be-u32-requires-4
 read-be-u32-requires-4 c κs = let h = rw (c .match .keys5) at (c .before .before .before .before .before .before .pre .0) in omega arith
 
-add-read-be-u64 : tie.Need-add-read-be-u64
-add-read-be-u64 c = search needs
-
 read-be-u64-requires : tie.Need-read-be-u64-requires
 read-be-u64-requires c κs = let h = rw (c .match .keys6) at (c .before .before .before .before .before .before .pre .0) in omega arith
-
-add-read-be-u64-2 : tie.Need-add-read-be-u64-2
-add-read-be-u64-2 c = search needs
 
 read-be-u64-requires-2 : tie.Need-read-be-u64-requires-2
 read-be-u64-requires-2 c κs = let h = rw (c .before .match .keys6) at (c .before .before .before .before .before .before .before .pre .0) in omega arith
@@ -84,31 +60,8 @@ returns-8 c =
     rw (ne-eqb k 1 (r .0 .0 .0 .0 .0 .1), ne-eqb k 2 (c .before .before .before .before .if1 .left), ne-eqb k 3 (r .0 .0 .0 .0 .1), ne-eqb k 4 (r .0 .0 .0 .1), ne-eqb k 5 (r .0 .0 .1), ne-eqb k 6 (r .0 .1), ne-eqb k 7 (r .1), c .before .before .read-be-u32 .ensures, c .before .read-be-u322 .ensures)
 
 pub entry-at-spec : {M : Type 1} → statement M
-entry-at-spec =
-    tie.close
-    (tie.spec
-    returns
-    shared-slice-read-id
-    add-read-be-u32
-    read-be-u32-requires
-    add-read-be-u32-2
-    read-be-u32-requires-2
-    add-t12
-    shared-slice-read-t14
-    add-read-be-u16
-    read-be-u16-requires
-    add-read-be-u32-3
-    read-be-u32-requires-3
-    add-read-be-u32-4
-    read-be-u32-requires-4
-    add-read-be-u64
-    read-be-u64-requires
-    add-read-be-u64-2
-    read-be-u64-requires-2
-    returns-2
-    returns-3
-    returns-4
-    returns-5
-    returns-6
-    returns-7
-    returns-8)
+entry-at-spec = tie.close (tie.spec
+    returns shared-slice-read-id (search needs) read-be-u32-requires (search needs) read-be-u32-requires-2
+    (search needs) shared-slice-read-t14 (search needs) read-be-u16-requires (search needs) read-be-u32-requires-3
+    (search needs) read-be-u32-requires-4 (search needs) read-be-u64-requires (search needs) read-be-u64-requires-2
+    returns-2 returns-3 returns-4 returns-5 returns-6 returns-7 returns-8)

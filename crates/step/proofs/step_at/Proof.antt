@@ -23,15 +23,6 @@ returns-2 c =
     let p = c .before .before .before .args .place in
     rw (le-ltb (length s) p (c .before .if1 .left), eq-eqb p (length s) (c .if2 .taken))
 
-shared-slice-read-kind : tie.Need-shared-slice-read-kind
-shared-slice-read-kind c = search needs
-
-body-length-requires : tie.Need-body-length-requires
-body-length-requires c κs = search needs
-
-enum-known-n : tie.Need-enum-known-n
-enum-known-n c = search needs
-
 enum-told : tie.Need-enum-told
 enum-told c = search needs
 
@@ -42,12 +33,6 @@ returns-3 c =
     let p = c .before .before .before .before .before .before .before .args .place in
     let b = c .before .before .body-length in
     rw (le-ltb (length s) p (c .before .before .before .before .before .if1 .left), ne-eqb p (length s) (c .before .before .before .before .if2 .left), none-of (bodyLength (getD s p 0)) (b .result) (b .ensures) (c .enum-told .given .1))
-
-add-q : tie.Need-add-q
-add-q c = search needs
-
-sub-if3 : tie.Need-sub-if3
-sub-if3 c = search needs
 
 returns-4 : tie.Need-returns-4
 unfolding stepAt
@@ -69,9 +54,6 @@ entry-at-requires c κs =
     let size = size-of (getD s p 0) n e in
     (omega arith, λ z. let y : _≡_ {A = ℕ} 0 1 = cc in omega arith)
 
-add-t6 : tie.Need-add-t6
-add-t6 c = search needs
-
 returns-5 : tie.Need-returns-5
 unfolding stepAt
 returns-5 c =
@@ -83,19 +65,6 @@ returns-5 c =
     rw (le-ltb (length s) p (c .before .before .before .before .before .before .before .before .if1 .left), ne-eqb p (length s) (c .before .before .before .before .before .before .before .if2 .left), e, le-leb (p + 1 + n) (length s) (omega arith), c .entry-at .ensures)
 
 pub step-at-spec : {M : Type 1} → statement M
-step-at-spec =
-    tie.close
-    (tie.spec
-    returns
-    returns-2
-    shared-slice-read-kind
-    body-length-requires
-    enum-known-n
-    enum-told
-    returns-3
-    add-q
-    sub-if3
-    returns-4
-    entry-at-requires
-    add-t6
-    returns-5)
+step-at-spec = tie.close (tie.spec
+    returns returns-2 (search needs) (search needs) (search needs) enum-told returns-3 (search needs) (search needs)
+    returns-4 entry-at-requires (search needs) returns-5)

@@ -10,20 +10,8 @@ use borrow.Author.Needs.{needs}
 use Rattle.stored.proofs.is_call.Statement.{statement}
 use Rattle.stored.proofs.is_call.Tie as tie
 
-add-walk-named : tie.Need-add-walk-named
-add-walk-named c = search needs
-
-shared-slice-read-walk-named : tie.Need-shared-slice-read-walk-named
-shared-slice-read-walk-named c = search needs
-
-walk-named-requires : tie.Need-walk-named-requires
-walk-named-requires c κs = search needs
-
 enum-told : tie.Need-enum-told
 enum-told c = search needs
-
-enum-told-2 : tie.Need-enum-told-2
-enum-told-2 c = search needs
 
 returns : tie.Need-returns
 unfolding isCall
@@ -31,15 +19,6 @@ returns c =
     let s = c .before .before .before .before .before .args in
     let n = walkAt (s .file .now) (s .pos) in
     rw (no-walk n (no-walk-of (walkNamed n) _ (c .before .before .walk-named .ensures) (c .enum-told2 .given .1)))
-
-add-if1 : tie.Need-add-if1
-add-if1 c = search needs
-
-add-if1-2 : tie.Need-add-if1-2
-add-if1-2 c = search needs
-
-shared-slice-read-if1 : tie.Need-shared-slice-read-if1
-shared-slice-read-if1 c = search needs
 
 returns-2 : tie.Need-returns-2
 unfolding isCall
@@ -50,15 +29,6 @@ returns-2 c =
     let z : s .size ≡ sizeAt f (s .pos) = c .before .before .before .before .before .before .before .pre .1 in
     let t = rw z at (c .if1 .taken) in
     rw (w, lt-leb (getD f (answerAt f (s .pos)) 0) 5 (omega arith))
-
-add-read-be-u32 : tie.Need-add-read-be-u32
-add-read-be-u32 c = search needs
-
-read-be-u32-requires : tie.Need-read-be-u32-requires
-read-be-u32-requires c κs = search needs
-
-cast-result : tie.Need-cast-result
-cast-result c = search needs
 
 returns-3 : tie.Need-returns-3
 unfolding isCall
@@ -71,20 +41,6 @@ returns-3 c =
     rw (w, le-leb (getD f (answerAt f (s .pos)) 0) 5 (omega arith), c .read-be-u32 .ensures)
 
 pub is-call-spec : {M : Type 1} → statement M
-is-call-spec =
-    tie.close
-    (tie.spec
-    add-walk-named
-    shared-slice-read-walk-named
-    walk-named-requires
-    enum-told
-    enum-told-2
-    returns
-    add-if1
-    add-if1-2
-    shared-slice-read-if1
-    returns-2
-    add-read-be-u32
-    read-be-u32-requires
-    cast-result
-    returns-3)
+is-call-spec = tie.close (tie.spec
+    (search needs) (search needs) (search needs) enum-told (search needs) returns (search needs) (search needs)
+    (search needs) returns-2 (search needs) (search needs) (search needs) returns-3)

@@ -5,18 +5,6 @@ use borrow.Author.Needs.{needs}
 use Rattle.stored.proofs.kept_at.Statement.{statement}
 use Rattle.stored.proofs.kept_at.Tie as tie
 
-shared-slice-read-if1 : tie.Need-shared-slice-read-if1
-shared-slice-read-if1 c = search needs
-
-add-read-be-u32 : tie.Need-add-read-be-u32
-add-read-be-u32 c = search needs
-
-read-be-u32-requires : tie.Need-read-be-u32-requires
-read-be-u32-requires c κs = search needs
-
-cast-result : tie.Need-cast-result
-cast-result c = search needs
-
 returns : tie.Need-returns
 returns c =
     let s = c .before .before .before .before .args in
@@ -28,12 +16,4 @@ returns-2 c =
     rw (ne-eqb (getD (s .file .now) (s .q) 0) 0 (λ e. omega arith))
 
 pub kept-at-spec : {M : Type 1} → statement M
-kept-at-spec =
-    tie.close
-    (tie.spec
-    shared-slice-read-if1
-    add-read-be-u32
-    read-be-u32-requires
-    cast-result
-    returns
-    returns-2)
+kept-at-spec = tie.close (tie.spec (search needs) (search needs) (search needs) (search needs) returns returns-2)

@@ -23,12 +23,6 @@ abbrev μ-loop : tie.MeasureT-loop
 loop-holds : tie.Need-loop-holds Inv-loop μ-loop
 loop-holds c = (omega arith, counting-begin (callRule _) _ _)
 
-call-fits-requires : tie.Need-call-fits-requires Inv-loop μ-loop
-call-fits-requires c κs = omega arith
-
-enum-known-n : tie.Need-enum-known-n Inv-loop μ-loop
-enum-known-n c = search needs
-
 enum-told : tie.Need-enum-told Inv-loop μ-loop
 enum-told c = search needs
 
@@ -38,19 +32,10 @@ fits c = some-of _ _ (c .before .before .before .call-fits .result) (c .before .
 is-of-requires : tie.Need-is-of-requires Inv-loop μ-loop
 is-of-requires c κs = standing-call _ _ _ _ (fits c) .within
 
-add-count : tie.Need-add-count Inv-loop μ-loop
-add-count c = omega arith
-
 add-pos : tie.Need-add-pos Inv-loop μ-loop
 add-pos c =
     let h = standing-call _ _ _ _ (fits (c .before .before)) in
     omega (arith, h .within, h .long)
-
-sub-left : tie.Need-sub-left Inv-loop μ-loop
-sub-left c = omega arith
-
-loop-less : tie.Need-loop-less Inv-loop μ-loop
-loop-less c = omega arith
 
 -- the call counts, or it does not
 counted : (c : tie.Joined1 Inv-loop μ-loop) → Counting (callRule (c .before .before .before .before .before .before .before .before .before .args .most)) (isOf (c .before .before .before .before .before .before .before .before .before .args .file .now) (c .before .before .before .before .before .before .before .before .before .args .walk) (c .before .before .before .before .before .before .before .before .before .args .number)) (c .before .before .before .before .before .before .before .before .before .args .file .now) (c .if1 .count) (c .before .before .before .before .before .before .before .loop .pos + c .before .before .before .n .given .0 .0) (c .before .before .before .before .before .before .before .loop .left - 1)
@@ -83,20 +68,6 @@ returns-2 c =
     counting-end (callRule _) _ _ (l .inv .1) (cut-none (callRule _) _ _ _ (none-of _ (c .before .before .call-fits .result) (c .before .before .call-fits .ensures) (c .enum-told .given .1)))
 
 pub count-calls-spec : {M : Type 1} → statement M
-count-calls-spec =
-    tie.close
-    (tie.spec
-    Inv-loop
-    μ-loop
-    loop-holds
-    call-fits-requires
-    enum-known-n
-    enum-told
-    is-of-requires
-    add-count
-    add-pos
-    sub-left
-    loop-less
-    loop-again
-    returns
-    returns-2)
+count-calls-spec = tie.close (tie.spec
+    Inv-loop μ-loop loop-holds (search needs) (search needs) enum-told is-of-requires (search needs) add-pos
+    (search needs) (search needs) loop-again returns returns-2)

@@ -29,12 +29,6 @@ abbrev μ-loop : tie.MeasureT-loop
 loop-holds : tie.Need-loop-holds Inv-loop μ-loop
 loop-holds c = (refl, omega arith, counting-begin (callRule _) _ _, refl)
 
-call-fits-requires : tie.Need-call-fits-requires Inv-loop μ-loop
-call-fits-requires c κs = omega arith
-
-enum-known-n : tie.Need-enum-known-n Inv-loop μ-loop
-enum-known-n c = search needs
-
 enum-told : tie.Need-enum-told Inv-loop μ-loop
 enum-told c = search needs
 
@@ -46,19 +40,10 @@ agrees-requires c κs =
     let h = standing-call _ _ _ _ (fits c) in
     (h .within, omega (arith, h .roomy))
 
-add-different : tie.Need-add-different Inv-loop μ-loop
-add-different c = omega arith
-
 add-pos : tie.Need-add-pos Inv-loop μ-loop
 add-pos c =
     let h = standing-call _ _ _ _ (fits (c .before .before .before .before)) in
     omega (arith, h .within, h .long)
-
-sub-left : tie.Need-sub-left Inv-loop μ-loop
-sub-left c = omega arith
-
-loop-less : tie.Need-loop-less Inv-loop μ-loop
-loop-less c = omega arith
 
 -- the call counts, or it does not
 counted : (c : tie.Joined1 Inv-loop μ-loop) → Counting (callRule (length (c .before .before .before .before .before .before .before .before .before .before .before .before .before .args .strip .now))) (differs (c .before .before .before .before .before .before .before .before .before .before .before .before .before .args .file .now)) (c .before .before .before .before .before .before .before .before .before .before .before .before .before .args .file .now) (c .if1 .different) (c .before .before .before .before .before .before .before .before .before .before .loop .pos + c .before .before .before .before .before .before .n .given .0 .0) (c .before .before .before .before .before .before .before .before .before .before .loop .left - 1)
@@ -108,22 +93,6 @@ returns-2 c =
     (counting-end (callRule _) _ _ (l .inv .2) e, rw e at (l .inv .3))
 
 pub count-different-spec : {M : Type 1} → statement M
-count-different-spec =
-    tie.close
-    (tie.spec
-    Inv-loop
-    μ-loop
-    loop-holds
-    call-fits-requires
-    enum-known-n
-    enum-told
-    agrees-requires
-    add-different
-    add-pos
-    sub-left
-    loop-less
-    loop-again
-    same-length
-    returns
-    same-length-2
-    returns-2)
+count-different-spec = tie.close (tie.spec
+    Inv-loop μ-loop loop-holds (search needs) (search needs) enum-told agrees-requires (search needs) add-pos
+    (search needs) (search needs) loop-again same-length returns same-length-2 returns-2)

@@ -30,15 +30,6 @@ abbrev μ-loop : tie.MeasureT-loop
 loop-holds : tie.Need-loop-holds Inv-loop μ-loop
 loop-holds c = (refl, omega arith, omega arith, omega arith, refl)
 
-call-fits-requires : tie.Need-call-fits-requires Inv-loop μ-loop
-call-fits-requires c κs = omega arith
-
-enum-known-n : tie.Need-enum-known-n Inv-loop μ-loop
-enum-known-n c = search needs
-
-enum-told : tie.Need-enum-told Inv-loop μ-loop
-enum-told c = search needs
-
 fits : (c : tie.After-agrees-arg Inv-loop μ-loop) → callRule (length (c .before .before .before .before .before .before .before .before .before .args .strip .now)) (c .before .before .before .before .before .before .before .before .before .args .file .now) (c .before .before .before .before .before .before .loop .pos) ≡ some (c .before .before .n .given .0 .0)
 fits c = some-of _ _ (c .before .before .before .before .call-fits .result) (c .before .before .before .before .call-fits .ensures) (c .before .before .n .given .1)
 
@@ -51,12 +42,6 @@ add-pos : tie.Need-add-pos Inv-loop μ-loop
 add-pos c =
     let h = standing-call _ _ _ _ (fits (c .before .before .before .before)) in
     omega (arith, h .within, h .long)
-
-sub-left : tie.Need-sub-left Inv-loop μ-loop
-sub-left c = omega arith
-
-loop-less : tie.Need-loop-less Inv-loop μ-loop
-loop-less c = omega arith
 
 loop-again : tie.Need-loop-again Inv-loop μ-loop
 unfolding differs
@@ -73,9 +58,6 @@ loop-again c =
       omega (arith, t),
       first-replayed-later r f (l .left) (l .pos) _ (omega arith) (fits (c .before .before .before .before)) (l .strip) e (c .before .before .before .agrees .ensures .1) (l .inv .4),
     )
-
-sub-result : tie.Need-sub-result Inv-loop μ-loop
-sub-result c = omega arith
 
 same-length : tie.Need-same-length Inv-loop μ-loop
 same-length c =
@@ -121,20 +103,6 @@ returns c =
     (omega (arith, c .before .loop .inv .3), left-in c)
 
 pub first-different-spec : {M : Type 1} → statement M
-first-different-spec =
-    tie.close
-    (tie.spec
-    Inv-loop
-    μ-loop
-    loop-holds
-    call-fits-requires
-    enum-known-n
-    enum-told
-    agrees-requires
-    add-pos
-    sub-left
-    loop-less
-    loop-again
-    sub-result
-    same-length
-    returns)
+first-different-spec = tie.close (tie.spec
+    Inv-loop μ-loop loop-holds (search needs) (search needs) (search needs) agrees-requires add-pos (search needs)
+    (search needs) loop-again (search needs) same-length returns)

@@ -25,15 +25,6 @@ abbrev μ-loop : tie.MeasureT-loop
 loop-holds : tie.Need-loop-holds Inv-loop μ-loop
 loop-holds c = (omega arith, omega arith, refl, omega arith)
 
-call-fits-requires : tie.Need-call-fits-requires Inv-loop μ-loop
-call-fits-requires c κs = omega arith
-
-enum-known-n : tie.Need-enum-known-n Inv-loop μ-loop
-enum-known-n c = search needs
-
-enum-told : tie.Need-enum-told Inv-loop μ-loop
-enum-told c = search needs
-
 fits : (c : tie.After-known-told Inv-loop μ-loop) → callRule (c .before .before .before .before .before .before .before .args .most) (c .before .before .before .before .before .before .before .args .file .now) (c .before .before .before .before .before .loop .pos) ≡ some (c .before .n .given .0 .0)
 fits c = some-of _ _ (c .before .before .before .call-fits .result) (c .before .before .before .call-fits .ensures) (c .before .n .given .1)
 
@@ -41,12 +32,6 @@ add-pos : tie.Need-add-pos Inv-loop μ-loop
 add-pos c =
     let h = standing-call _ _ _ _ (fits c) in
     omega (arith, h .within, h .long)
-
-sub-left : tie.Need-sub-left Inv-loop μ-loop
-sub-left c = omega arith
-
-loop-less : tie.Need-loop-less Inv-loop μ-loop
-loop-less c = omega arith
 
 loop-again : tie.Need-loop-again Inv-loop μ-loop
 loop-again c =
@@ -59,9 +44,6 @@ loop-again c =
       sym (after-turn r (s .file .now) (l .left) (l .pos) _ (omega arith) (fits c)) ∙ l .inv .2,
       omega (arith, length-turn r (s .file .now) (l .left) (l .pos) _ (omega arith) (fits c)),
     )
-
-sub-t9 : tie.Need-sub-t9 Inv-loop μ-loop
-sub-t9 c = omega arith
 
 -- both ways out: no more calls are due, or none stands
 stopped : (c : tie.Left-loop Inv-loop μ-loop) → cut (callRule (c .before .before .before .args .most)) (c .before .before .before .args .file .now) (c .before .loop .left) (c .before .loop .pos) ≡ []
@@ -84,18 +66,6 @@ returns c =
     (omega (arith, n), rw e at (l .inv .2))
 
 pub whole-calls-spec : {M : Type 1} → statement M
-whole-calls-spec =
-    tie.close
-    (tie.spec
-    Inv-loop
-    μ-loop
-    loop-holds
-    call-fits-requires
-    enum-known-n
-    enum-told
-    add-pos
-    sub-left
-    loop-less
-    loop-again
-    sub-t9
-    returns)
+whole-calls-spec = tie.close (tie.spec
+    Inv-loop μ-loop loop-holds (search needs) (search needs) (search needs) add-pos (search needs) (search needs)
+    loop-again (search needs) returns)

@@ -24,9 +24,6 @@ returns-3 c =
     let x = c .before .before .before .before .before .before .before .args in
     simp (le-ltb 128 (x .a .length) (omega arith), le-ltb 128 (x .b .length) (omega arith), ne-eqb _ _ (c .if3 .taken))
 
-same-address-requires : tie.Need-same-address-requires
-same-address-requires c κs = search needs
-
 -- After the call, its answer is what is left to compare.
 compared : (c : tie.After-same-address)
     → let x = c .before .before .before .before .before .before .before .before .before .before .args in
@@ -44,5 +41,4 @@ returns-5 : tie.Need-returns-5
 returns-5 c = rw (compared (c .before), c .if4 .left)
 
 pub compare-prefixes-spec : {M : Type 1} → statement M
-compare-prefixes-spec =
-    tie.close (tie.spec returns returns-2 returns-3 same-address-requires returns-4 returns-5)
+compare-prefixes-spec = tie.close (tie.spec returns returns-2 returns-3 (search needs) returns-4 returns-5)

@@ -1,3 +1,4 @@
+use borrow.Author.Needs.{needs}
 use Prim.Native.Nat.{_-_, _≤_}
 use native.Mathlib.Omega.{arith}
 use mathlib.Core.Path.{_≡_, refl, _∙_}
@@ -21,18 +22,6 @@ loop-holds c =
     (λ w. (omega arith, omega arith, omega arith, rw (w .1) (copied-long (c .before .args .bytes .now) (omega arith)), refl))
     (c .if1 .came)
 
-shared-slice-read-addr : tie.Need-shared-slice-read-addr Inv-loop μ-loop
-shared-slice-read-addr c = omega arith
-
-array-write-addr : tie.Need-array-write-addr Inv-loop μ-loop
-array-write-addr c = omega arith
-
-add-i : tie.Need-add-i Inv-loop μ-loop
-add-i c = omega arith
-
-loop-less : tie.Need-loop-less Inv-loop μ-loop
-loop-less c = omega arith
-
 loop-again : tie.Need-loop-again Inv-loop μ-loop
 loop-again c =
     let l = c .before .before in
@@ -46,15 +35,4 @@ returns c =
     h .4 ∙ rw e (h .3)
 
 pub prefix-to-ipv6-spec : {M : Type 1} → statement M
-prefix-to-ipv6-spec =
-    tie.close
-    (tie.spec
-    Inv-loop
-    μ-loop
-    loop-holds
-    shared-slice-read-addr
-    array-write-addr
-    add-i
-    loop-less
-    loop-again
-    returns)
+prefix-to-ipv6-spec = tie.close (tie.spec Inv-loop μ-loop loop-holds (search needs) (search needs) (search needs) (search needs) loop-again returns)

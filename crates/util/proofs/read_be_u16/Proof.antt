@@ -4,20 +4,11 @@ use borrow.Author.Needs.{needs}
 use Rattle.util.proofs.read_be_u16.Statement.{statement}
 use Rattle.util.proofs.read_be_u16.Tie as tie
 
-shared-slice-read-result : tie.Need-shared-slice-read-result
-shared-slice-read-result c = search needs
-
 cast-result : tie.Need-cast-result
 cast-result c = omega (arith, c .shared-slice-known .given (c .before .args .p))
 
 mul-result : tie.Need-mul-result
 mul-result c = omega (arith, c .shared-slice-known .given (c .before .args .p))
-
-add-result : tie.Need-add-result
-add-result c = search needs
-
-shared-slice-read-result-2 : tie.Need-shared-slice-read-result-2
-shared-slice-read-result-2 c = search needs
 
 cast-result-2 : tie.Need-cast-result-2
 cast-result-2 c = omega (arith, c .shared-slice-known2 .given (c .before .before .args .p + 1))
@@ -25,18 +16,5 @@ cast-result-2 c = omega (arith, c .shared-slice-known2 .given (c .before .before
 add-result-2 : tie.Need-add-result-2
 add-result-2 c = omega (arith, c .shared-slice-known2 .given (c .before .before .args .p + 1), c .before .shared-slice-known .given (c .before .before .args .p))
 
-returns : tie.Need-returns
-returns c = search needs
-
 pub read-be-u16-spec : {M : Type 1} → statement M
-read-be-u16-spec =
-    tie.close
-    (tie.spec
-    shared-slice-read-result
-    cast-result
-    mul-result
-    add-result
-    shared-slice-read-result-2
-    cast-result-2
-    add-result-2
-    returns)
+read-be-u16-spec = tie.close (tie.spec (search needs) cast-result mul-result (search needs) (search needs) cast-result-2 add-result-2 (search needs))

@@ -30,40 +30,25 @@ push-opaque-lsa-requires c κs =
     let s = c .before .before .before .before .before .before .before .before in
     (rw (is-opaque (s .args .ls-type) (s .args .opaque-type) (s .args .body .now) (s .args .o) (omega arith) (omega arith)) at (s .pre .0), s .pre .1)
 
-same-length : tie.Need-same-length
-same-length c = search needs
-
 returns : tie.Need-returns
 returns c =
     let s = c .before .before .before .before .before .before .before in
     rw (is-router (s .args .ls-type) (s .args .opaque-type) (s .args .body .now) (s .args .o) (c .before .before .before .before .match .keys1)) (c .before .before .push-router-lsa .ensures)
-
-same-length-2 : tie.Need-same-length-2
-same-length-2 c = search needs
 
 returns-2 : tie.Need-returns-2
 returns-2 c =
     let s = c .before .before .before .before .before .before .before in
     rw (is-network (s .args .ls-type) (s .args .opaque-type) (s .args .body .now) (s .args .o) (c .before .before .before .before .match .keys2)) (c .before .before .push-network-lsa .ensures)
 
-same-length-3 : tie.Need-same-length-3
-same-length-3 c = search needs
-
 returns-3 : tie.Need-returns-3
 returns-3 c =
     let s = c .before .before .before .before .before .before .before in
     rw (is-external (s .args .ls-type) (s .args .opaque-type) (s .args .body .now) (s .args .o) (c .before .before .before .before .match .keys3)) (c .before .before .push-external-lsa .ensures)
 
-same-length-4 : tie.Need-same-length-4
-same-length-4 c = search needs
-
 returns-4 : tie.Need-returns-4
 returns-4 c =
     let s = c .before .before .before .before .before .before .before .before .before in
     rw (is-summary (s .args .ls-type) (s .args .opaque-type) (s .args .body .now) (s .args .o) (omega (arith, c .before .before .before .before .before .before .match .rest .0 .0 .1, c .before .before .before .before .before .before .match .rest .0 .1)) (omega arith)) (c .before .before .push-summary-lsa .ensures)
-
-same-length-5 : tie.Need-same-length-5
-same-length-5 c = search needs
 
 returns-5 : tie.Need-returns-5
 returns-5 c =
@@ -86,24 +71,7 @@ returns-8 c =
     rw (is-raw (s .args .ls-type) (s .args .opaque-type) (s .args .body .now) (s .args .o) (c .before .before .before .before .match .rest .0 .0 .1) (c .before .before .before .before .match .rest .0 .1) (c .before .before .before .before .match .rest .1) (λ h l. omega arith) (λ h l. omega arith)) (pushed-raw _ _)
 
 pub push-body-spec : {M : Type 1} → statement M
-push-body-spec =
-    tie.close
-    (tie.spec
-    push-router-lsa-requires
-    push-network-lsa-requires
-    push-external-lsa-requires
-    push-summary-lsa-requires
-    push-opaque-lsa-requires
-    same-length
-    returns
-    same-length-2
-    returns-2
-    same-length-3
-    returns-3
-    same-length-4
-    returns-4
-    same-length-5
-    returns-5
-    returns-6
-    returns-7
-    returns-8)
+push-body-spec = tie.close (tie.spec
+    push-router-lsa-requires push-network-lsa-requires push-external-lsa-requires push-summary-lsa-requires
+    push-opaque-lsa-requires (search needs) returns (search needs) returns-2 (search needs) returns-3 (search needs)
+    returns-4 (search needs) returns-5 returns-6 returns-7 returns-8)

@@ -17,27 +17,6 @@ push-lsa-header-requires c κs =
     let l = length-lsa (headerEntries2 d o) 23 25 (bodyOf2 d o) (drop 20 d) (o + 20) in
     omega arith
 
-sub-body : tie.Need-sub-body
-sub-body c = search needs
-
-part-body-start : tie.Need-part-body-start
-part-body-start c = search needs
-
-part-body-end : tie.Need-part-body-end
-part-body-end c = search needs
-
-cast-start : tie.Need-cast-start
-cast-start c = search needs
-
-add-start : tie.Need-add-start
-add-start c = search needs
-
-shared-slice-read-push-body : tie.Need-shared-slice-read-push-body
-shared-slice-read-push-body c = search needs
-
-shared-slice-read-push-body-2 : tie.Need-shared-slice-read-push-body-2
-shared-slice-read-push-body-2 c = search needs
-
 push-body-requires : tie.Need-push-body-requires
 unfolding lsaEntries2
 push-body-requires c κs =
@@ -48,9 +27,6 @@ push-body-requires c κs =
     let n = length-drop 20 d in
     let l = length-lsa (headerEntries2 d o) 23 25 (bodyOf2 d o) (drop 20 d) (o + 20) in
     rw z (omega arith)
-
-enum-known-pushed : tie.Need-enum-known-pushed
-enum-known-pushed c = search needs
 
 push-unparsed-requires : tie.Need-push-unparsed-requires
 unfolding lsaEntries2
@@ -81,9 +57,6 @@ push-unparsed-requires-2 c κs =
     let l = room-raw (headerEntries2 d o) 23 25 (bodyOf2 d o) (drop 20 d) (o + 20) _ (s .args .at) (p .answer) (c .before .enum-told .given .1) w (s .pre .0) in
     rw z (omega arith)
 
-same-length : tie.Need-same-length
-same-length c = search needs
-
 returns : tie.Need-returns
 unfolding lsaEntries2
 returns c =
@@ -95,9 +68,6 @@ returns c =
     let p = rw z at (c .before .before .before .before .before .before .before .before .before .push-body .ensures) in
     let w = rw z at (c .before .before .push-unparsed .ensures) in
     lsa-decoded (headerEntries2 d o) 23 25 (bodyOf2 d o) (drop 20 d) (o + 20) _ (c .before .before .before .before .before .before .before .before .before .before .before .before .before .before .before .before .push-lsa-header .ensures) p (c .before .before .before .before .before .pushed .given .1) w
-
-same-length-2 : tie.Need-same-length-2
-same-length-2 c = search needs
 
 returns-2 : tie.Need-returns-2
 unfolding lsaEntries2
@@ -112,23 +82,7 @@ returns-2 c =
     lsa-raw (headerEntries2 d o) 23 25 (bodyOf2 d o) (drop 20 d) (o + 20) _ (c .before .before .before .before .before .before .before .before .before .before .before .before .before .before .before .push-lsa-header .ensures) p (c .before .before .before .before .enum-told .given .1) w
 
 pub push-lsa-spec : {M : Type 1} → statement M
-push-lsa-spec =
-    tie.close
-    (tie.spec
-    push-lsa-header-requires
-    sub-body
-    part-body-start
-    part-body-end
-    cast-start
-    add-start
-    shared-slice-read-push-body
-    shared-slice-read-push-body-2
-    push-body-requires
-    enum-known-pushed
-    push-unparsed-requires
-    enum-told
-    push-unparsed-requires-2
-    same-length
-    returns
-    same-length-2
-    returns-2)
+push-lsa-spec = tie.close (tie.spec
+    push-lsa-header-requires (search needs) (search needs) (search needs) (search needs) (search needs) (search needs)
+    (search needs) push-body-requires (search needs) push-unparsed-requires enum-told push-unparsed-requires-2
+    (search needs) returns (search needs) returns-2)

@@ -29,9 +29,6 @@ push-attached-routers-requires c κs =
     let h = rw t at (c .before .before .before .before .before .before .before .before .pre .0) in
     omega arith
 
-same-length : tie.Need-same-length
-same-length c = search needs
-
 returns-2 : tie.Need-returns-2
 unfolding networkLsa2 encode code
 returns-2 c =
@@ -40,6 +37,4 @@ returns-2 c =
     rw t (pushed-decoded _ _ _ (c .before .before .push-attached-routers .ensures .1) (then (c .before .before .before .before .before .before .push-ipv4-at .ensures) (c .before .before .push-attached-routers .ensures .0)))
 
 pub push-network-lsa-spec : {M : Type 1} → statement M
-push-network-lsa-spec =
-    tie.close
-    (tie.spec returns push-ipv4-at-requires push-attached-routers-requires same-length returns-2)
+push-network-lsa-spec = tie.close (tie.spec returns push-ipv4-at-requires push-attached-routers-requires (search needs) returns-2)

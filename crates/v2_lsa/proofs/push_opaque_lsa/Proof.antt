@@ -7,24 +7,12 @@ use borrow.Author.Needs.{needs}
 use Rattle.v2_lsa.proofs.push_opaque_lsa.Statement.{statement}
 use Rattle.v2_lsa.proofs.push_opaque_lsa.Tie as tie
 
-opaque-has-tlvs-requires : tie.Need-opaque-has-tlvs-requires
-opaque-has-tlvs-requires c κs = search needs
-
-cast-push-bytes : tie.Need-cast-push-bytes
-cast-push-bytes c = search needs
-
-add-push-bytes : tie.Need-add-push-bytes
-add-push-bytes c = search needs
-
 push-bytes-requires : tie.Need-push-bytes-requires
 unfolding opaqueLsa encode code
 push-bytes-requires c κs =
     let t = sym (c .before .before .opaque-has-tlvs .ensures) ∙ c .before .if1 .taken in
     let h = rw t at (c .before .before .before .before .before .pre .0) in
     omega arith
-
-same-length : tie.Need-same-length
-same-length c = search needs
 
 returns : tie.Need-returns
 unfolding opaqueLsa encode code
@@ -39,13 +27,4 @@ returns-2 c =
     rw t (pushed-raw _ _)
 
 pub push-opaque-lsa-spec : {M : Type 1} → statement M
-push-opaque-lsa-spec =
-    tie.close
-    (tie.spec
-    opaque-has-tlvs-requires
-    cast-push-bytes
-    add-push-bytes
-    push-bytes-requires
-    same-length
-    returns
-    returns-2)
+push-opaque-lsa-spec = tie.close (tie.spec (search needs) (search needs) (search needs) push-bytes-requires (search needs) returns returns-2)

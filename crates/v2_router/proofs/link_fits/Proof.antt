@@ -7,21 +7,12 @@ use borrow.Author.Needs.{needs}
 use Rattle.v2_router.proofs.link_fits.Statement.{statement}
 use Rattle.v2_router.proofs.link_fits.Tie as tie
 
-sub-if1 : tie.Need-sub-if1
-sub-if1 c = search needs
-
 returns : tie.Need-returns
 unfolding standing
 returns c =
     let b = c .before .args .body .now in
     let p = c .before .args .p in
     rw (lt-leb (p + 12) (length b) (omega arith))
-
-add-n : tie.Need-add-n
-add-n c = search needs
-
-shared-slice-read-n : tie.Need-shared-slice-read-n
-shared-slice-read-n c = search needs
 
 cast-n : tie.Need-cast-n
 cast-n c = omega (arith, c .shared-slice-known .given (c .before .before .args .p + 9))
@@ -31,9 +22,6 @@ mul-n c = omega (arith, c .shared-slice-known .given (c .before .before .args .p
 
 add-n-2 : tie.Need-add-n-2
 add-n-2 c = omega (arith, c .shared-slice-known .given (c .before .before .args .p + 9))
-
-sub-if2 : tie.Need-sub-if2
-sub-if2 c = search needs
 
 returns-2 : tie.Need-returns-2
 unfolding standing
@@ -52,16 +40,4 @@ returns-3 c =
     rw (le-leb (p + 12) (length b) (omega arith), le-leb 12 n (omega arith), le-leb (p + n) (length b) (omega arith))
 
 pub link-fits-spec : {M : Type 1} → statement M
-link-fits-spec =
-    tie.close
-    (tie.spec
-    sub-if1
-    returns
-    add-n
-    shared-slice-read-n
-    cast-n
-    mul-n
-    add-n-2
-    sub-if2
-    returns-2
-    returns-3)
+link-fits-spec = tie.close (tie.spec (search needs) returns (search needs) (search needs) cast-n mul-n add-n-2 (search needs) returns-2 returns-3)

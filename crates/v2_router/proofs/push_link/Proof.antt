@@ -41,21 +41,12 @@ end-container-requires c κs =
     let l = length-link (s .args .body .now) (s .args .o) (span (s .args .p) (s .args .n)) in
     omega arith
 
-same-length : tie.Need-same-length
-same-length c = search needs
-
 returns : tie.Need-returns
 unfolding link encode code
 returns c =
     contained 96 _ _ _ (c .before .before .before .before .before .before .before .before .before .before .before .before .before .before .begin-container-at .ensures) (then (c .before .before .before .before .before .before .before .before .before .before .push-link-fields .ensures) (c .before .before .before .before .before .before .push-link-tos-metrics .ensures)) (c .before .before .end-container .ensures)
 
 pub push-link-spec : {M : Type 1} → statement M
-push-link-spec =
-    tie.close
-    (tie.spec
-    begin-container-at-requires
-    push-link-fields-requires
-    push-link-tos-metrics-requires
-    end-container-requires
-    same-length
-    returns)
+push-link-spec = tie.close (tie.spec
+    begin-container-at-requires push-link-fields-requires push-link-tos-metrics-requires end-container-requires
+    (search needs) returns)

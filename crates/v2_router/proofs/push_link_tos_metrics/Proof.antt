@@ -9,15 +9,6 @@ use borrow.Author.Needs.{needs}
 use Rattle.v2_router.proofs.push_link_tos_metrics.Statement.{statement}
 use Rattle.v2_router.proofs.push_link_tos_metrics.Tie as tie
 
-add-num-tos : tie.Need-add-num-tos
-add-num-tos c = search needs
-
-shared-slice-read-num-tos : tie.Need-shared-slice-read-num-tos
-shared-slice-read-num-tos c = search needs
-
-cast-num-tos : tie.Need-cast-num-tos
-cast-num-tos c = search needs
-
 returns : tie.Need-returns
 returns c =
     let s = c .before .before .before .before in
@@ -26,27 +17,6 @@ returns c =
     let p = s .args .p in
     let k = getD b (p + 9) 0 in
     rw (any-none 69 4 (linkTos b o) b o (p + 12) k (omega arith)) (nothing _ _)
-
-add-first : tie.Need-add-first
-add-first c = search needs
-
-mul-end : tie.Need-mul-end
-mul-end c = search needs
-
-add-end : tie.Need-add-end
-add-end c = search needs
-
-cast-begin-container : tie.Need-cast-begin-container
-cast-begin-container c = search needs
-
-add-begin-container : tie.Need-add-begin-container
-add-begin-container c = search needs
-
-cast-begin-container-2 : tie.Need-cast-begin-container-2
-cast-begin-container-2 c = search needs
-
-add-begin-container-2 : tie.Need-add-begin-container-2
-add-begin-container-2 c = search needs
 
 begin-container-requires : tie.Need-begin-container-requires
 unfolding code
@@ -81,9 +51,6 @@ end-container-requires c κs =
     let l = any-length 69 4 (linkTos b o) b o (p + 12) k (omega arith) (omega arith) in
     omega arith
 
-same-length : tie.Need-same-length
-same-length c = search needs
-
 returns-2 : tie.Need-returns-2
 returns-2 c =
     let s = c .before .before .before .before .before .before .before .before .before .before .before .before .before .before .before .before in
@@ -94,22 +61,7 @@ returns-2 c =
     any-listed 69 4 (linkTos b o) b o (p + 12) k (omega arith) (omega arith) (c .before .before .before .before .before .before .before .before .before .before .begin-container .ensures) (c .before .before .before .before .before .before .push-link-tos-entries .ensures) (c .before .before .end-container .ensures)
 
 pub push-link-tos-metrics-spec : {M : Type 1} → statement M
-push-link-tos-metrics-spec =
-    tie.close
-    (tie.spec
-    add-num-tos
-    shared-slice-read-num-tos
-    cast-num-tos
-    returns
-    add-first
-    mul-end
-    add-end
-    cast-begin-container
-    add-begin-container
-    cast-begin-container-2
-    add-begin-container-2
-    begin-container-requires
-    push-link-tos-entries-requires
-    end-container-requires
-    same-length
-    returns-2)
+push-link-tos-metrics-spec = tie.close (tie.spec
+    (search needs) (search needs) (search needs) returns (search needs) (search needs) (search needs) (search needs)
+    (search needs) (search needs) (search needs) begin-container-requires push-link-tos-entries-requires
+    end-container-requires (search needs) returns-2)

@@ -22,18 +22,6 @@ Inv-loop strip₀ at body o count a₀ rest₀ start₀ left₀ strip a rest sta
 abbrev μ-loop : tie.MeasureT-loop
 μ-loop strip₀ at body o count a₀ rest₀ start₀ left₀ strip a rest start left = left
 
-sub-rest : tie.Need-sub-rest Inv-loop μ-loop
-sub-rest c = search needs
-
-part-rest-start : tie.Need-part-rest-start Inv-loop μ-loop
-part-rest-start c = search needs
-
-part-rest-end : tie.Need-part-rest-end Inv-loop μ-loop
-part-rest-end c = search needs
-
-add-start : tie.Need-add-start Inv-loop μ-loop
-add-start c = search needs
-
 loop-holds : tie.Need-loop-holds Inv-loop μ-loop
 loop-holds c =
     let s = c .before .before .before in
@@ -47,12 +35,6 @@ loop-holds c =
 
 sub-end : tie.Need-sub-end Inv-loop μ-loop
 sub-end c = omega (arith, left-length (c .before .loop .inv))
-
-link-fits-requires : tie.Need-link-fits-requires Inv-loop μ-loop
-link-fits-requires c κs = search needs
-
-enum-known-n : tie.Need-enum-known-n Inv-loop μ-loop
-enum-known-n c = search needs
 
 enum-told : tie.Need-enum-told Inv-loop μ-loop
 enum-told c = search needs
@@ -96,12 +78,6 @@ add-start-2 c =
     let h = link-inside _ _ _ (fits (c .before .before .before .before)) in
     omega (arith, g .starts)
 
-sub-left : tie.Need-sub-left Inv-loop μ-loop
-sub-left c = search needs
-
-loop-less : tie.Need-loop-less Inv-loop μ-loop
-loop-less c = search needs
-
 loop-again : tie.Need-loop-again Inv-loop μ-loop
 loop-again c =
     let g = c .before .before .before .before .before .before .before .before .before .before .loop .inv in
@@ -142,31 +118,7 @@ returns-2 c =
     rw e (d .0, (d .1, g .within))
 
 pub push-links-spec : {M : Type 1} → statement M
-push-links-spec =
-    tie.close
-    (tie.spec
-    Inv-loop
-    μ-loop
-    sub-rest
-    part-rest-start
-    part-rest-end
-    add-start
-    loop-holds
-    sub-end
-    link-fits-requires
-    enum-known-n
-    enum-told
-    sub-end-2
-    push-link-requires
-    sub-rest-2
-    part-rest-start-2
-    part-rest-end-2
-    cast-start
-    add-start-2
-    sub-left
-    loop-less
-    loop-again
-    same-length
-    returns
-    same-length-2
-    returns-2)
+push-links-spec = tie.close (tie.spec
+    Inv-loop μ-loop (search needs) (search needs) (search needs) (search needs) loop-holds sub-end (search needs)
+    (search needs) enum-told sub-end-2 push-link-requires sub-rest-2 part-rest-start-2 part-rest-end-2 cast-start
+    add-start-2 (search needs) (search needs) loop-again same-length returns same-length-2 returns-2)

@@ -9,12 +9,6 @@ use borrow.Author.Needs.{needs}
 use Rattle.v2_router.proofs.push_links_array.Statement.{statement}
 use Rattle.v2_router.proofs.push_links_array.Tie as tie
 
-read-be-u16-requires : tie.Need-read-be-u16-requires
-read-be-u16-requires c κs = search needs
-
-add-push-links : tie.Need-add-push-links
-add-push-links c = search needs
-
 push-links-requires : tie.Need-push-links-requires
 unfolding spread
 push-links-requires c κs =
@@ -24,15 +18,6 @@ push-links-requires c κs =
     let l = length-listing 16 (link b o) o 4 (links b) in
     let count = c .before .read-be-u16 .ensures in
     rw count (omega arith)
-
-add-begin-container : tie.Need-add-begin-container
-add-begin-container c = search needs
-
-cast-begin-container : tie.Need-cast-begin-container
-cast-begin-container c = search needs
-
-add-begin-container-2 : tie.Need-add-begin-container-2
-add-begin-container-2 c = search needs
 
 begin-container-requires : tie.Need-begin-container-requires
 unfolding spread
@@ -54,9 +39,6 @@ end-container-requires c κs =
     let w = rw count at (c .before .before .before .before .before .before .before .push-links .ensures .0) in
     omega arith
 
-same-length : tie.Need-same-length
-same-length c = search needs
-
 returns : tie.Need-returns
 returns c =
     let s = c .before .before .before .before .before .before .before .before .before .before .before .before .before .before .before in
@@ -68,16 +50,6 @@ returns c =
     (listed-last 16 (link b o) o 4 (links b) (ap (λ (x : ℕ). o + x) (sym e)) w (c .before .before .before .before .before .before .begin-container .ensures) (c .before .before .end-container .ensures), e)
 
 pub push-links-array-spec : {M : Type 1} → statement M
-push-links-array-spec =
-    tie.close
-    (tie.spec
-    read-be-u16-requires
-    add-push-links
-    push-links-requires
-    add-begin-container
-    cast-begin-container
-    add-begin-container-2
-    begin-container-requires
-    end-container-requires
-    same-length
-    returns)
+push-links-array-spec = tie.close (tie.spec
+    (search needs) (search needs) push-links-requires (search needs) (search needs) (search needs)
+    begin-container-requires end-container-requires (search needs) returns)

@@ -37,9 +37,6 @@ push-links-array-requires c κs =
     let h = rw t at (c .before .before .before .before .before .before .before .before .before .before .before .before .pre .0) in
     omega arith
 
-same-length : tie.Need-same-length
-same-length c = search needs
-
 returns-2 : tie.Need-returns-2
 unfolding routerLsa2 encode code
 returns-2 c =
@@ -48,12 +45,4 @@ returns-2 c =
     rw t (pushed-decoded _ _ _ (c .before .before .push-links-array .ensures .1) (then (then (c .before .before .before .before .before .before .before .before .before .before .push-router-flags .ensures) (c .before .before .before .before .before .before .push-u16-at .ensures)) (c .before .before .push-links-array .ensures .0)))
 
 pub push-router-lsa-spec : {M : Type 1} → statement M
-push-router-lsa-spec =
-    tie.close
-    (tie.spec
-    returns
-    push-router-flags-requires
-    push-u16-at-requires
-    push-links-array-requires
-    same-length
-    returns-2)
+push-router-lsa-spec = tie.close (tie.spec returns push-router-flags-requires push-u16-at-requires push-links-array-requires (search needs) returns-2)

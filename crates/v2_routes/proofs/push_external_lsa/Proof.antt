@@ -29,9 +29,6 @@ push-external-tos-metrics-requires c κs =
     let h = rw t at (c .before .before .before .before .before .before .before .before .pre .0) in
     omega arith
 
-same-length : tie.Need-same-length
-same-length c = search needs
-
 returns-2 : tie.Need-returns-2
 unfolding externalLsa2 encode code
 returns-2 c =
@@ -40,11 +37,4 @@ returns-2 c =
     rw t (pushed-decoded _ _ _ (c .before .before .push-external-tos-metrics .ensures .1) (then (c .before .before .before .before .before .before .push-external-fields .ensures) (c .before .before .push-external-tos-metrics .ensures .0)))
 
 pub push-external-lsa-spec : {M : Type 1} → statement M
-push-external-lsa-spec =
-    tie.close
-    (tie.spec
-    returns
-    push-external-fields-requires
-    push-external-tos-metrics-requires
-    same-length
-    returns-2)
+push-external-lsa-spec = tie.close (tie.spec returns push-external-fields-requires push-external-tos-metrics-requires (search needs) returns-2)

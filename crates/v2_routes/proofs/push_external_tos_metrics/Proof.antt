@@ -12,9 +12,6 @@ use borrow.Author.Needs.{needs}
 use Rattle.v2_routes.proofs.push_external_tos_metrics.Statement.{statement}
 use Rattle.v2_routes.proofs.push_external_tos_metrics.Tie as tie
 
-sub-count : tie.Need-sub-count
-sub-count c = search needs
-
 returns : tie.Need-returns
 unfolding whole
 returns c =
@@ -24,21 +21,6 @@ returns c =
     let k = (length b - 16) / 12 in
     let e = whole-after 12 b 16 (omega arith) in
     (rw (any-none 20 12 (externalTos b o) b o (16) k (omega arith)) (nothing _ _), omega arith)
-
-mul-end : tie.Need-mul-end
-mul-end c = search needs
-
-add-end : tie.Need-add-end
-add-end c = search needs
-
-add-begin-container : tie.Need-add-begin-container
-add-begin-container c = search needs
-
-cast-begin-container : tie.Need-cast-begin-container
-cast-begin-container c = search needs
-
-add-begin-container-2 : tie.Need-add-begin-container-2
-add-begin-container-2 c = search needs
 
 begin-container-requires : tie.Need-begin-container-requires
 unfolding whole code
@@ -70,9 +52,6 @@ end-container-requires c κs =
     let l = any-length 20 12 (externalTos b o) b o (16) k (omega arith) (omega arith) in
     omega arith
 
-same-length : tie.Need-same-length
-same-length c = search needs
-
 returns-2 : tie.Need-returns-2
 unfolding whole
 returns-2 c =
@@ -83,18 +62,6 @@ returns-2 c =
     (any-listed 20 12 (externalTos b o) b o (16) k (omega arith) (omega arith) (c .before .before .before .before .before .before .before .before .before .before .begin-container .ensures) (c .before .before .before .before .before .before .push-external-tos-entries .ensures) (c .before .before .end-container .ensures), sym (whole-after 12 b 16 (omega arith)))
 
 pub push-external-tos-metrics-spec : {M : Type 1} → statement M
-push-external-tos-metrics-spec =
-    tie.close
-    (tie.spec
-    sub-count
-    returns
-    mul-end
-    add-end
-    add-begin-container
-    cast-begin-container
-    add-begin-container-2
-    begin-container-requires
-    push-external-tos-entries-requires
-    end-container-requires
-    same-length
-    returns-2)
+push-external-tos-metrics-spec = tie.close (tie.spec
+    (search needs) returns (search needs) (search needs) (search needs) (search needs) (search needs)
+    begin-container-requires push-external-tos-entries-requires end-container-requires (search needs) returns-2)

@@ -37,9 +37,6 @@ push-summary-tos-metrics-requires c κs =
     let h = rw t at (c .before .before .before .before .before .before .before .before .before .before .before .before .pre .0) in
     omega arith
 
-same-length : tie.Need-same-length
-same-length c = search needs
-
 returns-2 : tie.Need-returns-2
 unfolding summaryLsa encode code
 returns-2 c =
@@ -48,12 +45,5 @@ returns-2 c =
     rw t (pushed-decoded _ _ _ (c .before .before .push-summary-tos-metrics .ensures .1) (then (then (c .before .before .before .before .before .before .before .before .before .before .push-ipv4-at .ensures) (c .before .before .before .before .before .before .push-metric24-at .ensures)) (c .before .before .push-summary-tos-metrics .ensures .0)))
 
 pub push-summary-lsa-spec : {M : Type 1} → statement M
-push-summary-lsa-spec =
-    tie.close
-    (tie.spec
-    returns
-    push-ipv4-at-requires
-    push-metric24-at-requires
-    push-summary-tos-metrics-requires
-    same-length
-    returns-2)
+push-summary-lsa-spec = tie.close (tie.spec
+    returns push-ipv4-at-requires push-metric24-at-requires push-summary-tos-metrics-requires (search needs) returns-2)

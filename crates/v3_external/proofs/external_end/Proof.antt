@@ -5,15 +5,6 @@ use Rattle.format.proofs.Lengths.{at-most}
 use Rattle.v3_external.proofs.external_end.Statement.{statement}
 use Rattle.v3_external.proofs.external_end.Tie as tie
 
-reference-place-requires : tie.Need-reference-place-requires
-reference-place-requires c κs = search needs
-
-has-reference-requires : tie.Need-has-reference-requires
-has-reference-requires c κs = search needs
-
-present-requires : tie.Need-present-requires
-present-requires c κs = search needs
-
 add-result : tie.Need-add-result
 add-result c =
     let b = c .before .before .before .before .args .body .now in
@@ -28,6 +19,4 @@ returns c =
     omega arith
 
 pub external-end-spec : {M : Type 1} → statement M
-external-end-spec =
-    tie.close
-    (tie.spec reference-place-requires has-reference-requires present-requires add-result returns)
+external-end-spec = tie.close (tie.spec (search needs) (search needs) (search needs) add-result returns)

@@ -4,11 +4,8 @@ use borrow.Author.Needs.{needs}
 use Rattle.v3_external.proofs.has_tag.Statement.{statement}
 use Rattle.v3_external.proofs.has_tag.Tie as tie
 
-shared-slice-read-result : tie.Need-shared-slice-read-result
-shared-slice-read-result c = search needs
-
 returns : tie.Need-returns
 returns c = rw (div-one (getD (c .before .args .body .now) 0 0))
 
 pub has-tag-spec : {M : Type 1} → statement M
-has-tag-spec = tie.close (tie.spec shared-slice-read-result returns)
+has-tag-spec = tie.close (tie.spec (search needs) returns)

@@ -1,27 +1,8 @@
-use native.Mathlib.Omega.{arith}
 use borrow.Author.Needs.{needs}
 use Rattle.format.specs.Strip.{encode, code}
 use Rattle.format.proofs.Wrote.{then}
 use Rattle.v3_external.proofs.push_external_flags.Statement.{statement}
 use Rattle.v3_external.proofs.push_external_flags.Tie as tie
-
-push-u8-at-requires : tie.Need-push-u8-at-requires
-push-u8-at-requires c κs = search needs
-
-push-bit-at-requires : tie.Need-push-bit-at-requires
-unfolding code encode
-push-bit-at-requires c κs = omega arith
-
-push-bit-at-requires-2 : tie.Need-push-bit-at-requires-2
-unfolding code encode
-push-bit-at-requires-2 c κs = omega arith
-
-push-bit-at-requires-3 : tie.Need-push-bit-at-requires-3
-unfolding code encode
-push-bit-at-requires-3 c κs = omega arith
-
-same-length : tie.Need-same-length
-same-length c = search needs
 
 returns : tie.Need-returns
 unfolding encode code
@@ -33,12 +14,5 @@ returns c =
     then (then (then (k1 .push-u8-at .ensures) (k2 .push-bit-at .ensures)) (k3 .push-bit-at2 .ensures)) (k4 .push-bit-at3 .ensures)
 
 pub push-external-flags-spec : {M : Type 1} → statement M
-push-external-flags-spec =
-    tie.close
-    (tie.spec
-    push-u8-at-requires
-    push-bit-at-requires
-    push-bit-at-requires-2
-    push-bit-at-requires-3
-    same-length
-    returns)
+unfolding code encode
+push-external-flags-spec = tie.close (tie.spec (search needs) (search needs) (search needs) (search needs) (search needs) returns)

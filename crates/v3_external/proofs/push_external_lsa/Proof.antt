@@ -13,12 +13,6 @@ use Rattle.v3_prefix.proofs.Fits.{some-of, none-of}
 use Rattle.v3_external.proofs.push_external_lsa.Statement.{statement}
 use Rattle.v3_external.proofs.push_external_lsa.Tie as tie
 
-fixed-prefix-fits-requires : tie.Need-fixed-prefix-fits-requires
-fixed-prefix-fits-requires c κs = search needs
-
-enum-known-n : tie.Need-enum-known-n
-enum-known-n c = search needs
-
 enum-told : tie.Need-enum-told
 enum-told c = search needs
 
@@ -70,9 +64,6 @@ push-external-optional-requires c κs =
     let i = fits-inside b (getD b 4 0) 8 _ f in
     omega arith
 
-same-length : tie.Need-same-length
-same-length c = search needs
-
 returns-3 : tie.Need-returns-3
 unfolding encode code
 returns-3 c =
@@ -81,17 +72,6 @@ returns-3 c =
     (then (then (c .before .before .before .before .before .before .before .before .before .before .push-external-flags .ensures) (c .before .before .before .before .before .before .push-external-prefix .ensures)) (c .before .before .push-external-optional .ensures)))
 
 pub push-external-lsa-spec : {M : Type 1} → statement M
-push-external-lsa-spec =
-    tie.close
-    (tie.spec
-    fixed-prefix-fits-requires
-    enum-known-n
-    enum-told
-    returns
-    external-end-requires
-    returns-2
-    push-external-flags-requires
-    push-external-prefix-requires
-    push-external-optional-requires
-    same-length
-    returns-3)
+push-external-lsa-spec = tie.close (tie.spec
+    (search needs) (search needs) enum-told returns external-end-requires returns-2 push-external-flags-requires
+    push-external-prefix-requires push-external-optional-requires (search needs) returns-3)

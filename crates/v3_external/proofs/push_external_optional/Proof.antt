@@ -24,9 +24,6 @@ push-referenced-link-state-id-requires c κs =
     let l = length-parts (s .body .now) (s .o) (s .n) in
     omega arith
 
-same-length : tie.Need-same-length
-same-length c = search needs
-
 returns : tie.Need-returns
 returns c =
     let s = c .before .before .before .before .before .before .before .before .before .before .before .before .before .before .args in
@@ -35,11 +32,6 @@ returns c =
     (then (c .before .before .before .before .before .before .before .before .before .before .push-forwarding-address .ensures) (then (c .before .before .before .before .before .before .push-external-route-tag .ensures) (c .before .before .push-referenced-link-state-id .ensures)))
 
 pub push-external-optional-spec : {M : Type 1} → statement M
-push-external-optional-spec =
-    tie.close
-    (tie.spec
-    push-forwarding-address-requires
-    push-external-route-tag-requires
-    push-referenced-link-state-id-requires
-    same-length
-    returns)
+push-external-optional-spec = tie.close (tie.spec
+    push-forwarding-address-requires push-external-route-tag-requires push-referenced-link-state-id-requires
+    (search needs) returns)

@@ -1,31 +1,8 @@
-use native.Mathlib.Omega.{arith}
 use borrow.Author.Needs.{needs}
 use Rattle.format.specs.Strip.{encode, code}
 use Rattle.format.proofs.Wrote.{then}
 use Rattle.v3_external.proofs.push_external_prefix.Statement.{statement}
 use Rattle.v3_external.proofs.push_external_prefix.Tie as tie
-
-push-metric24-at-requires : tie.Need-push-metric24-at-requires
-push-metric24-at-requires c κs = search needs
-
-push-u8-at-requires : tie.Need-push-u8-at-requires
-unfolding code encode
-push-u8-at-requires c κs = omega arith
-
-push-u8-at-requires-2 : tie.Need-push-u8-at-requires-2
-unfolding code encode
-push-u8-at-requires-2 c κs = omega arith
-
-push-u16-at-requires : tie.Need-push-u16-at-requires
-unfolding code encode
-push-u16-at-requires c κs = omega arith
-
-push-ipv6-at-requires : tie.Need-push-ipv6-at-requires
-unfolding code encode
-push-ipv6-at-requires c κs = omega arith
-
-same-length : tie.Need-same-length
-same-length c = search needs
 
 returns : tie.Need-returns
 unfolding encode code
@@ -38,13 +15,5 @@ returns c =
     then (then (then (then (k1 .push-metric24-at .ensures) (k2 .push-u8-at .ensures)) (k3 .push-u8-at2 .ensures)) (k4 .push-u16-at .ensures)) (k5 .push-ipv6-at .ensures)
 
 pub push-external-prefix-spec : {M : Type 1} → statement M
-push-external-prefix-spec =
-    tie.close
-    (tie.spec
-    push-metric24-at-requires
-    push-u8-at-requires
-    push-u8-at-requires-2
-    push-u16-at-requires
-    push-ipv6-at-requires
-    same-length
-    returns)
+unfolding code encode
+push-external-prefix-spec = tie.close (tie.spec (search needs) (search needs) (search needs) (search needs) (search needs) (search needs) returns)

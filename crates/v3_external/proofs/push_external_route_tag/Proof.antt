@@ -6,21 +6,12 @@ use Rattle.format.proofs.Wrote.{nothing}
 use Rattle.v3_external.proofs.push_external_route_tag.Statement.{statement}
 use Rattle.v3_external.proofs.push_external_route_tag.Tie as tie
 
-tag-place-requires : tie.Need-tag-place-requires
-tag-place-requires c κs = search needs
-
-has-tag-requires : tie.Need-has-tag-requires
-has-tag-requires c κs = search needs
-
 push-u32-at-requires : tie.Need-push-u32-at-requires
 unfolding encode code
 push-u32-at-requires c κs =
     let t = sym (c .before .before .has-tag .ensures) ∙ c .before .if1 .taken in
     let h = rw t at (c .before .before .before .before .before .before .pre) in
     omega arith
-
-same-length : tie.Need-same-length
-same-length c = search needs
 
 returns : tie.Need-returns
 unfolding encode code
@@ -31,12 +22,4 @@ unfolding encode code
 returns-2 c = rw (sym (c .before .has-tag .ensures) ∙ c .if1 .left) (nothing _ _)
 
 pub push-external-route-tag-spec : {M : Type 1} → statement M
-push-external-route-tag-spec =
-    tie.close
-    (tie.spec
-    tag-place-requires
-    has-tag-requires
-    push-u32-at-requires
-    same-length
-    returns
-    returns-2)
+push-external-route-tag-spec = tie.close (tie.spec (search needs) (search needs) push-u32-at-requires (search needs) returns returns-2)

@@ -6,21 +6,12 @@ use Rattle.format.proofs.Wrote.{nothing}
 use Rattle.v3_external.proofs.push_forwarding_address.Statement.{statement}
 use Rattle.v3_external.proofs.push_forwarding_address.Tie as tie
 
-has-forwarding-requires : tie.Need-has-forwarding-requires
-has-forwarding-requires c κs = search needs
-
-add-push-ipv6-at : tie.Need-add-push-ipv6-at
-add-push-ipv6-at c = search needs
-
 push-ipv6-at-requires : tie.Need-push-ipv6-at-requires
 unfolding encode code
 push-ipv6-at-requires c κs =
     let t = sym (c .before .before .has-forwarding .ensures) ∙ c .before .if1 .taken in
     let h = rw t at (c .before .before .before .before .before .pre) in
     omega arith
-
-same-length : tie.Need-same-length
-same-length c = search needs
 
 returns : tie.Need-returns
 unfolding encode code
@@ -31,12 +22,4 @@ unfolding encode code
 returns-2 c = rw (sym (c .before .has-forwarding .ensures) ∙ c .if1 .left) (nothing _ _)
 
 pub push-forwarding-address-spec : {M : Type 1} → statement M
-push-forwarding-address-spec =
-    tie.close
-    (tie.spec
-    has-forwarding-requires
-    add-push-ipv6-at
-    push-ipv6-at-requires
-    same-length
-    returns
-    returns-2)
+push-forwarding-address-spec = tie.close (tie.spec (search needs) (search needs) push-ipv6-at-requires (search needs) returns returns-2)

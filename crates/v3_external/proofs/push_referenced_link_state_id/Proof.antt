@@ -6,21 +6,12 @@ use Rattle.format.proofs.Wrote.{nothing}
 use Rattle.v3_external.proofs.push_referenced_link_state_id.Statement.{statement}
 use Rattle.v3_external.proofs.push_referenced_link_state_id.Tie as tie
 
-reference-place-requires : tie.Need-reference-place-requires
-reference-place-requires c κs = search needs
-
-has-reference-requires : tie.Need-has-reference-requires
-has-reference-requires c κs = search needs
-
 push-u32-at-requires : tie.Need-push-u32-at-requires
 unfolding encode code
 push-u32-at-requires c κs =
     let t = sym (c .before .before .has-reference .ensures) ∙ c .before .if1 .taken in
     let h = rw t at (c .before .before .before .before .before .before .pre) in
     omega arith
-
-same-length : tie.Need-same-length
-same-length c = search needs
 
 returns : tie.Need-returns
 unfolding encode code
@@ -31,12 +22,4 @@ unfolding encode code
 returns-2 c = rw (sym (c .before .has-reference .ensures) ∙ c .if1 .left) (nothing _ _)
 
 pub push-referenced-link-state-id-spec : {M : Type 1} → statement M
-push-referenced-link-state-id-spec =
-    tie.close
-    (tie.spec
-    reference-place-requires
-    has-reference-requires
-    push-u32-at-requires
-    same-length
-    returns
-    returns-2)
+push-referenced-link-state-id-spec = tie.close (tie.spec (search needs) (search needs) push-u32-at-requires (search needs) returns returns-2)

@@ -5,15 +5,6 @@ use Rattle.format.proofs.Lengths.{at-most}
 use Rattle.v3_external.proofs.reference_place.Statement.{statement}
 use Rattle.v3_external.proofs.reference_place.Tie as tie
 
-tag-place-requires : tie.Need-tag-place-requires
-tag-place-requires c κs = search needs
-
-has-tag-requires : tie.Need-has-tag-requires
-has-tag-requires c κs = search needs
-
-present-requires : tie.Need-present-requires
-present-requires c κs = search needs
-
 add-result : tie.Need-add-result
 add-result c =
     let b = c .before .before .before .before .args .body .now in
@@ -27,5 +18,4 @@ returns c =
     omega arith
 
 pub reference-place-spec : {M : Type 1} → statement M
-reference-place-spec =
-    tie.close (tie.spec tag-place-requires has-tag-requires present-requires add-result returns)
+reference-place-spec = tie.close (tie.spec (search needs) (search needs) (search needs) add-result returns)

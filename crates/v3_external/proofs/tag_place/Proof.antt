@@ -4,15 +4,6 @@ use Rattle.format.proofs.Lengths.{at-most}
 use Rattle.v3_external.proofs.tag_place.Statement.{statement}
 use Rattle.v3_external.proofs.tag_place.Tie as tie
 
-add-result : tie.Need-add-result
-add-result c = search needs
-
-has-forwarding-requires : tie.Need-has-forwarding-requires
-has-forwarding-requires c κs = search needs
-
-present-requires : tie.Need-present-requires
-present-requires c κs = search needs
-
 add-result-2 : tie.Need-add-result-2
 add-result-2 c =
     let h = at-most (c .before .has-forwarding .result) 16 in
@@ -24,5 +15,4 @@ returns c =
     omega arith
 
 pub tag-place-spec : {M : Type 1} → statement M
-tag-place-spec =
-    tie.close (tie.spec add-result has-forwarding-requires present-requires add-result-2 returns)
+tag-place-spec = tie.close (tie.spec (search needs) (search needs) (search needs) add-result-2 returns)

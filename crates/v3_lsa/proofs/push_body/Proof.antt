@@ -63,68 +63,35 @@ push-tlv-body-requires c κs =
     let h = rw (alone (c .before) o, tlvs-alone 0 (s .args .body .now) o) at (s .pre .0) in
     omega arith
 
-same-length : tie.Need-same-length
-same-length c = search needs
-
 returns : tie.Need-returns
 returns c = rw (router-body _ _ (c .before .before .before .before .before .before .before .args .o) (c .before .before .before .before .match .keys1)) (c .before .before .push-router-lsa .ensures)
-
-same-length-2 : tie.Need-same-length-2
-same-length-2 c = search needs
 
 returns-2 : tie.Need-returns-2
 returns-2 c = rw (network-body _ _ (c .before .before .before .before .before .before .before .args .o) (c .before .before .before .before .match .keys2)) (c .before .before .push-network-lsa .ensures)
 
-same-length-3 : tie.Need-same-length-3
-same-length-3 c = search needs
-
 returns-3 : tie.Need-returns-3
 returns-3 c = rw (inter-area-prefix-body _ _ (c .before .before .before .before .before .before .before .args .o) (c .before .before .before .before .match .keys3)) (c .before .before .push-inter-area-prefix-lsa .ensures)
-
-same-length-4 : tie.Need-same-length-4
-same-length-4 c = search needs
 
 returns-4 : tie.Need-returns-4
 returns-4 c = rw (inter-area-router-body _ _ (c .before .before .before .before .before .before .before .args .o) (c .before .before .before .before .match .keys4)) (c .before .before .push-inter-area-router-lsa .ensures)
 
-same-length-5 : tie.Need-same-length-5
-same-length-5 c = search needs
-
 returns-5 : tie.Need-returns-5
 returns-5 c = rw (external-body _ _ (c .before .before .before .before .before .before .before .args .o) (c .before .before .before .before .match .keys5)) (c .before .before .push-external-lsa .ensures)
-
-same-length-6 : tie.Need-same-length-6
-same-length-6 c = search needs
 
 returns-6 : tie.Need-returns-6
 returns-6 c = rw (link-body _ _ (c .before .before .before .before .before .before .before .args .o) (c .before .before .before .before .match .keys6)) (c .before .before .push-link-lsa .ensures)
 
-same-length-7 : tie.Need-same-length-7
-same-length-7 c = search needs
-
 returns-7 : tie.Need-returns-7
 returns-7 c = rw (intra-area-prefix-body _ _ (c .before .before .before .before .before .before .before .args .o) (c .before .before .before .before .match .keys7)) (c .before .before .push-intra-area-prefix-lsa .ensures)
-
-same-length-8 : tie.Need-same-length-8
-same-length-8 c = search needs
 
 returns-8 : tie.Need-returns-8
 returns-8 c = rw (e-router-body _ _ (c .before .before .before .before .before .before .before .args .o) (c .before .before .before .before .match .keys9)) (c .before .before .push-e-router-lsa .ensures)
 
-same-length-9 : tie.Need-same-length-9
-same-length-9 c = search needs
-
 returns-9 : tie.Need-returns-9
 returns-9 c = rw (e-network-body _ _ (c .before .before .before .before .before .before .before .args .o) (c .before .before .before .before .match .keys10)) (c .before .before .push-e-network-lsa .ensures)
 
-same-length-10 : tie.Need-same-length-10
-same-length-10 c = search needs
-
 returns-10 : tie.Need-returns-10
 returns-10 c = rw (e-link-body _ _ (c .before .before .before .before .before .before .before .args .o) (c .before .before .before .before .match .keys11)) (c .before .before .push-e-link-lsa .ensures)
-
-same-length-11 : tie.Need-same-length-11
-same-length-11 c = search needs
 
 returns-11 : tie.Need-returns-11
 returns-11 c = rw (e-intra-area-prefix-body _ _ (c .before .before .before .before .before .before .before .args .o) (c .before .before .before .before .match .keys12)) (c .before .before .push-e-intra-area-prefix-lsa .ensures)
@@ -135,53 +102,17 @@ returns-12 c = rw (unknown (c .before) (λ g h. omega arith) (c .before .before 
 returns-13 : tie.Need-returns-13
 returns-13 c = rw (unknown (c .before .before) (λ g h. omega arith) (c .before .before .before .before .before .args .o)) (pushed-raw _ _)
 
-same-length-12 : tie.Need-same-length-12
-same-length-12 c = search needs
-
 returns-14 : tie.Need-returns-14
 returns-14 c =
     let s = c .before .before .before .before .before .before .before in
     rw (alone (c .before .before .before .before) (s .args .o), tlvs-alone 0 (s .args .body .now) (s .args .o)) (c .before .before .push-tlv-body .ensures)
 
 pub push-body-spec : {M : Type 1} → statement M
-push-body-spec =
-    tie.close
-    (tie.spec
-    push-router-lsa-requires
-    push-network-lsa-requires
-    push-inter-area-prefix-lsa-requires
-    push-inter-area-router-lsa-requires
-    push-external-lsa-requires
-    push-link-lsa-requires
-    push-intra-area-prefix-lsa-requires
-    push-e-router-lsa-requires
-    push-e-network-lsa-requires
-    push-e-link-lsa-requires
-    push-e-intra-area-prefix-lsa-requires
-    push-tlv-body-requires
-    same-length
-    returns
-    same-length-2
-    returns-2
-    same-length-3
-    returns-3
-    same-length-4
-    returns-4
-    same-length-5
-    returns-5
-    same-length-6
-    returns-6
-    same-length-7
-    returns-7
-    same-length-8
-    returns-8
-    same-length-9
-    returns-9
-    same-length-10
-    returns-10
-    same-length-11
-    returns-11
-    returns-12
-    returns-13
-    same-length-12
-    returns-14)
+push-body-spec = tie.close (tie.spec
+    push-router-lsa-requires push-network-lsa-requires push-inter-area-prefix-lsa-requires
+    push-inter-area-router-lsa-requires push-external-lsa-requires push-link-lsa-requires
+    push-intra-area-prefix-lsa-requires push-e-router-lsa-requires push-e-network-lsa-requires push-e-link-lsa-requires
+    push-e-intra-area-prefix-lsa-requires push-tlv-body-requires (search needs) returns (search needs) returns-2
+    (search needs) returns-3 (search needs) returns-4 (search needs) returns-5 (search needs) returns-6 (search needs)
+    returns-7 (search needs) returns-8 (search needs) returns-9 (search needs) returns-10 (search needs) returns-11
+    returns-12 returns-13 (search needs) returns-14)

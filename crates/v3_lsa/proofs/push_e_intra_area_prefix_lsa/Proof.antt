@@ -27,9 +27,6 @@ push-tlv-body-requires c κs =
     let h = rw (le-ltb (length (s .args .body .now)) 12 (omega arith)) at (s .pre .0) in
     omega arith
 
-same-length : tie.Need-same-length
-same-length c = search needs
-
 returns-2 : tie.Need-returns-2
 unfolding tlvLsa encode code
 returns-2 c =
@@ -38,6 +35,4 @@ returns-2 c =
     rw (le-ltb (length b) 12 (omega arith)) (pushed-after (references b (s .o)) _ _ (c .before .before .before .before .before .before .push-references .ensures) (c .before .before .push-tlv-body .ensures))
 
 pub push-e-intra-area-prefix-lsa-spec : {M : Type 1} → statement M
-push-e-intra-area-prefix-lsa-spec =
-    tie.close
-    (tie.spec returns push-references-requires push-tlv-body-requires same-length returns-2)
+push-e-intra-area-prefix-lsa-spec = tie.close (tie.spec returns push-references-requires push-tlv-body-requires (search needs) returns-2)

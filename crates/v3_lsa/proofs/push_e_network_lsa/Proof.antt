@@ -28,9 +28,6 @@ push-tlv-body-requires c κs =
     let h = rw (le-ltb (length (s .args .body .now)) 4 (omega arith)) at (s .pre .0) in
     omega arith
 
-same-length : tie.Need-same-length
-same-length c = search needs
-
 returns-2 : tie.Need-returns-2
 unfolding tlvLsa encode code
 returns-2 c =
@@ -39,5 +36,4 @@ returns-2 c =
     rw (le-ltb (length b) 4 (omega arith)) (pushed-after (options b (s .o) ∷ []) _ _ (c .before .before .before .before .before .before .push-options .ensures) (c .before .before .push-tlv-body .ensures))
 
 pub push-e-network-lsa-spec : {M : Type 1} → statement M
-push-e-network-lsa-spec =
-    tie.close (tie.spec returns push-options-requires push-tlv-body-requires same-length returns-2)
+push-e-network-lsa-spec = tie.close (tie.spec returns push-options-requires push-tlv-body-requires (search needs) returns-2)

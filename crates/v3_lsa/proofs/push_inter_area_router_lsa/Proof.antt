@@ -35,9 +35,6 @@ push-ipv4-at-requires c κs =
     let h = rw (le-ltb (length (s .args .body .now)) 12 (omega arith)) at (s .pre .0) in
     omega arith
 
-same-length : tie.Need-same-length
-same-length c = search needs
-
 returns-2 : tie.Need-returns-2
 unfolding interAreaRouterLsa encode code
 returns-2 c =
@@ -45,12 +42,5 @@ returns-2 c =
     (pushed-decoded _ _ _ refl (then (then (c .before .before .before .before .before .before .before .before .before .before .push-options .ensures) (c .before .before .before .before .before .before .push-metric24-at .ensures)) (c .before .before .push-ipv4-at .ensures)))
 
 pub push-inter-area-router-lsa-spec : {M : Type 1} → statement M
-push-inter-area-router-lsa-spec =
-    tie.close
-    (tie.spec
-    returns
-    push-options-requires
-    push-metric24-at-requires
-    push-ipv4-at-requires
-    same-length
-    returns-2)
+push-inter-area-router-lsa-spec = tie.close (tie.spec
+    returns push-options-requires push-metric24-at-requires push-ipv4-at-requires (search needs) returns-2)

@@ -10,24 +10,6 @@ use Rattle.format.proofs.Loop.{spread}
 use Rattle.v3_lsa.proofs.push_links.Statement.{statement}
 use Rattle.v3_lsa.proofs.push_links.Tie as tie
 
-sub-count : tie.Need-sub-count
-sub-count c = search needs
-
-mul-end : tie.Need-mul-end
-mul-end c = search needs
-
-add-end : tie.Need-add-end
-add-end c = search needs
-
-add-begin-container : tie.Need-add-begin-container
-add-begin-container c = search needs
-
-cast-begin-container : tie.Need-cast-begin-container
-cast-begin-container c = search needs
-
-add-begin-container-2 : tie.Need-add-begin-container-2
-add-begin-container-2 c = search needs
-
 begin-container-requires : tie.Need-begin-container-requires
 unfolding spread whole code
 begin-container-requires c κs =
@@ -52,9 +34,6 @@ end-container-requires c κs =
     let l = length-listing 15 (link b (s .o)) (s .o) 4 (whole 16 b 4) in
     omega arith
 
-same-length : tie.Need-same-length
-same-length c = search needs
-
 returns : tie.Need-returns
 unfolding whole
 returns c =
@@ -64,17 +43,6 @@ returns c =
     (listed 15 (link b (s .o)) (s .o) 4 (whole 16 b 4) (ap (λ (x : ℕ). s .o + x) e) (c .before .before .before .before .before .before .before .before .before .before .begin-container .ensures) (c .before .before .before .before .before .before .push-link-entries .ensures) (c .before .before .end-container .ensures), sym e)
 
 pub push-links-spec : {M : Type 1} → statement M
-push-links-spec =
-    tie.close
-    (tie.spec
-    sub-count
-    mul-end
-    add-end
-    add-begin-container
-    cast-begin-container
-    add-begin-container-2
-    begin-container-requires
-    push-link-entries-requires
-    end-container-requires
-    same-length
-    returns)
+push-links-spec = tie.close (tie.spec
+    (search needs) (search needs) (search needs) (search needs) (search needs) (search needs) begin-container-requires
+    push-link-entries-requires end-container-requires (search needs) returns)

@@ -22,24 +22,6 @@ push-lsa-header-requires c κs =
     let l = length-lsa (headerEntries3 d (s .args .o)) 31 33 (bodyOf3 d (s .args .o)) b o in
     omega arith
 
-function-code-requires : tie.Need-function-code-requires
-function-code-requires c κs = search needs
-
-cast-start : tie.Need-cast-start
-cast-start c = search needs
-
-add-start : tie.Need-add-start
-add-start c = search needs
-
-sub-body : tie.Need-sub-body
-sub-body c = search needs
-
-part-body-start : tie.Need-part-body-start
-part-body-start c = search needs
-
-part-body-end : tie.Need-part-body-end
-part-body-end c = search needs
-
 push-body-requires : tie.Need-push-body-requires
 unfolding lsaEntries3
 push-body-requires c κs =
@@ -50,9 +32,6 @@ push-body-requires c κs =
     let l = length-lsa (headerEntries3 d (s .args .o)) 31 33 (bodyOf3 d (s .args .o)) b o in
     let m = length-drop headerSize d in
     rw (c .before .before .function-code .ensures, to-the-end d 20) (omega arith)
-
-enum-known-b : tie.Need-enum-known-b
-enum-known-b c = search needs
 
 -- what `push_body` answers, of the definition
 answer : (c : tie.After-push-body) → c .push-body .result ≡ pushedOf (c .before .before .before .before .before .before .push-lsa-header .result) (bodyOf3 (c .before .before .before .before .before .before .before .before .before .before .args .lsa .now) (c .before .before .before .before .before .before .before .before .before .before .args .o))
@@ -88,9 +67,6 @@ push-unparsed-requires-2 c κs =
     let k = ap (λ (es : List Entry). length (encode es)) (x .1 31 33 b o) in
     rw (to-the-end d 20) (omega arith)
 
-same-length : tie.Need-same-length
-same-length c = search needs
-
 returns : tie.Need-returns
 unfolding lsaEntries3
 returns c =
@@ -99,9 +75,6 @@ returns c =
     let w = to-the-end d 20 in
     let p = rw (c .before .before .before .before .before .before .before .before .before .before .before .before .function-code .ensures, w) at (c .before .before .before .before .before .before .before .before .before .push-body .ensures) in
     lsa-decoded (headerEntries3 d (s .args .o)) 31 33 (bodyOf3 d (s .args .o)) (drop headerSize d) (s .args .o + headerSize) (c .before .before .before .before .before .before .before .before .before .push-body .result) (c .before .before .before .before .before .before .before .before .before .before .before .before .before .before .before .push-lsa-header .ensures) p (c .before .before .before .before .before .b .given .1) (rw w at (c .before .before .push-unparsed .ensures))
-
-same-length-2 : tie.Need-same-length-2
-same-length-2 c = search needs
 
 returns-2 : tie.Need-returns-2
 unfolding lsaEntries3
@@ -113,22 +86,7 @@ returns-2 c =
     lsa-raw (headerEntries3 d (s .args .o)) 31 33 (bodyOf3 d (s .args .o)) (drop headerSize d) (s .args .o + headerSize) (c .before .before .before .before .before .before .before .before .push-body .result) (c .before .before .before .before .before .before .before .before .before .before .before .before .before .before .push-lsa-header .ensures) p (c .before .before .before .before .enum-told .given .1) (rw w at (c .before .before .push-unparsed2 .ensures))
 
 pub push-lsa-spec : {M : Type 1} → statement M
-push-lsa-spec =
-    tie.close
-    (tie.spec
-    push-lsa-header-requires
-    function-code-requires
-    cast-start
-    add-start
-    sub-body
-    part-body-start
-    part-body-end
-    push-body-requires
-    enum-known-b
-    push-unparsed-requires
-    enum-told
-    push-unparsed-requires-2
-    same-length
-    returns
-    same-length-2
-    returns-2)
+push-lsa-spec = tie.close (tie.spec
+    push-lsa-header-requires (search needs) (search needs) (search needs) (search needs) (search needs) (search needs)
+    push-body-requires (search needs) push-unparsed-requires enum-told push-unparsed-requires-2 (search needs) returns
+    (search needs) returns-2)

@@ -27,9 +27,6 @@ push-attached-routers-requires c κs =
     let h = rw (le-ltb (length (s .args .body .now)) 4 (omega arith)) at (s .pre .0) in
     omega arith
 
-same-length : tie.Need-same-length
-same-length c = search needs
-
 returns-2 : tie.Need-returns-2
 unfolding networkLsa3 encode code
 returns-2 c =
@@ -37,6 +34,4 @@ returns-2 c =
     (pushed-decoded _ _ _ (c .before .before .push-attached-routers .ensures .1) (then (c .before .before .before .before .before .before .push-options .ensures) (c .before .before .push-attached-routers .ensures .0)))
 
 pub push-network-lsa-spec : {M : Type 1} → statement M
-push-network-lsa-spec =
-    tie.close
-    (tie.spec returns push-options-requires push-attached-routers-requires same-length returns-2)
+push-network-lsa-spec = tie.close (tie.spec returns push-options-requires push-attached-routers-requires (search needs) returns-2)

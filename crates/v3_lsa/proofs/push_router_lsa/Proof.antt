@@ -34,9 +34,6 @@ push-links-requires c κs =
     let h = rw (le-ltb (length (s .args .body .now)) 4 (omega arith)) at (s .pre .0) in
     omega arith
 
-same-length : tie.Need-same-length
-same-length c = search needs
-
 returns-2 : tie.Need-returns-2
 unfolding routerLsa3 encode code
 returns-2 c =
@@ -45,12 +42,4 @@ returns-2 c =
     (pushed-decoded _ _ _ (k .1) (then (then (c .before .before .before .before .before .before .before .before .before .before .push-router-flags .ensures) (c .before .before .before .before .before .before .push-options .ensures)) (k .0)))
 
 pub push-router-lsa-spec : {M : Type 1} → statement M
-push-router-lsa-spec =
-    tie.close
-    (tie.spec
-    returns
-    push-router-flags-requires
-    push-options-requires
-    push-links-requires
-    same-length
-    returns-2)
+push-router-lsa-spec = tie.close (tie.spec returns push-router-flags-requires push-options-requires push-links-requires (search needs) returns-2)

@@ -6,12 +6,6 @@ use Rattle.v3_prefix.proofs.Fits.{fits-none, fits-some, fits-past}
 use Rattle.v3_prefix.proofs.prefix_fits.Statement.{statement}
 use Rattle.v3_prefix.proofs.prefix_fits.Tie as tie
 
-prefix-octets-requires : tie.Need-prefix-octets-requires
-prefix-octets-requires c κs = search needs
-
-enum-known-n : tie.Need-enum-known-n
-enum-known-n c = search needs
-
 enum-told : tie.Need-enum-told
 enum-told c = search needs
 
@@ -19,9 +13,6 @@ returns : tie.Need-returns
 returns c =
     let a = c .before .before .before .before .args in
     rw (fits-none (a .body .now) (a .prefix-length) (a .p) (none-of (octets (a .prefix-length)) (c .before .before .prefix-octets .result) (c .before .before .prefix-octets .ensures) (c .enum-told .given .1)))
-
-sub-if1 : tie.Need-sub-if1
-sub-if1 c = search needs
 
 returns-2 : tie.Need-returns-2
 returns-2 c =
@@ -40,6 +31,4 @@ returns-3 c =
     rw (fits-past b l (c .before .before .before .before .before .before .args .p) n s (omega arith))
 
 pub prefix-fits-spec : {M : Type 1} → statement M
-prefix-fits-spec =
-    tie.close
-    (tie.spec prefix-octets-requires enum-known-n enum-told returns sub-if1 returns-2 returns-3)
+prefix-fits-spec = tie.close (tie.spec (search needs) (search needs) enum-told returns (search needs) returns-2 returns-3)

@@ -12,21 +12,6 @@ use Rattle.v3_prefix.proofs.Lengths.{length-prefix-fields}
 use Rattle.v3_prefix.proofs.push_prefix.Statement.{statement}
 use Rattle.v3_prefix.proofs.push_prefix.Tie as tie
 
-cast-start : tie.Need-cast-start
-cast-start c = search needs
-
-add-start : tie.Need-add-start
-add-start c = search needs
-
-cast-begin-container : tie.Need-cast-begin-container
-cast-begin-container c = search needs
-
-add-begin-container : tie.Need-add-begin-container
-add-begin-container c = search needs
-
-add-begin-container-2 : tie.Need-add-begin-container-2
-add-begin-container-2 c = search needs
-
 begin-container-requires : tie.Need-begin-container-requires
 unfolding encode code
 begin-container-requires c κs =
@@ -51,9 +36,6 @@ end-container-requires c κs =
     let k = length-prefix-fields (s .with-metric) (s .body .now) (s .o) (s .p) (s .n) in
     omega arith
 
-same-length : tie.Need-same-length
-same-length c = search needs
-
 returns : tie.Need-returns
 unfolding prefix
 returns c =
@@ -62,16 +44,6 @@ returns c =
     rw z (contained 97 _ _ (prefixFields (s .with-metric) (s .body .now) (s .o) (s .p) (s .n)) (c .before .before .before .before .before .before .before .before .before .before .begin-container .ensures) (c .before .before .before .before .before .before .push-prefix-fields .ensures) (c .before .before .end-container .ensures))
 
 pub push-prefix-spec : {M : Type 1} → statement M
-push-prefix-spec =
-    tie.close
-    (tie.spec
-    cast-start
-    add-start
-    cast-begin-container
-    add-begin-container
-    add-begin-container-2
-    begin-container-requires
-    push-prefix-fields-requires
-    end-container-requires
-    same-length
-    returns)
+push-prefix-spec = tie.close (tie.spec
+    (search needs) (search needs) (search needs) (search needs) (search needs) begin-container-requires
+    push-prefix-fields-requires end-container-requires (search needs) returns)

@@ -24,12 +24,6 @@ abbrev μ-loop : tie.MeasureT-loop
 loop-holds : tie.Need-loop-holds Inv-loop μ-loop
 loop-holds c = (begin prefixRule _ _ _ _ _ _ _ _ refl refl, search needs)
 
-entry-fits-requires : tie.Need-entry-fits-requires Inv-loop μ-loop
-entry-fits-requires c κs = search needs
-
-enum-known-n : tie.Need-enum-known-n Inv-loop μ-loop
-enum-known-n c = search needs
-
 enum-told : tie.Need-enum-told Inv-loop μ-loop
 enum-told c = search needs
 
@@ -65,12 +59,6 @@ add-pos-2 c =
     let i = fits-inside b (getD b (l .pos) 0) (l .pos + 4) _ f in
     omega arith
 
-sub-left : tie.Need-sub-left Inv-loop μ-loop
-sub-left c = search needs
-
-loop-less : tie.Need-loop-less Inv-loop μ-loop
-loop-less c = search needs
-
 loop-again : tie.Need-loop-again Inv-loop μ-loop
 loop-again c =
     let s = c .before .before .before .before .before .before .before .before .before .before .before .before in
@@ -105,22 +93,6 @@ returns-2 c =
     (d .0, (d .1, l .inv .1))
 
 pub push-prefix-entries-spec : {M : Type 1} → statement M
-push-prefix-entries-spec =
-    tie.close
-    (tie.spec
-    Inv-loop
-    μ-loop
-    loop-holds
-    entry-fits-requires
-    enum-known-n
-    enum-told
-    push-prefix-requires
-    add-pos
-    add-pos-2
-    sub-left
-    loop-less
-    loop-again
-    same-length
-    returns
-    same-length-2
-    returns-2)
+push-prefix-entries-spec = tie.close (tie.spec
+    Inv-loop μ-loop loop-holds (search needs) (search needs) enum-told push-prefix-requires add-pos add-pos-2
+    (search needs) (search needs) loop-again same-length returns same-length-2 returns-2)

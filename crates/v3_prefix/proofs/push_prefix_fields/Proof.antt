@@ -15,9 +15,6 @@ push-u8-at-requires c κs =
     let m = length-prefix-metric (s .with-metric) (s .body .now) (s .o) (s .p) in
     omega arith
 
-add-push-u8-at : tie.Need-add-push-u8-at
-add-push-u8-at c = search needs
-
 push-u8-at-requires-2 : tie.Need-push-u8-at-requires-2
 unfolding encode code
 push-u8-at-requires-2 c κs =
@@ -34,9 +31,6 @@ push-prefix-metric-requires c κs =
     let m = length-prefix-metric (s .with-metric) (s .body .now) (s .o) (s .p) in
     omega arith
 
-add-push-ipv6-at : tie.Need-add-push-ipv6-at
-add-push-ipv6-at c = search needs
-
 push-ipv6-at-requires : tie.Need-push-ipv6-at-requires
 unfolding encode code
 push-ipv6-at-requires c κs =
@@ -44,9 +38,6 @@ push-ipv6-at-requires c κs =
     let l = length-prefix-fields (s .with-metric) (s .body .now) (s .o) (s .p) (s .n) in
     let m = length-prefix-metric (s .with-metric) (s .body .now) (s .o) (s .p) in
     omega arith
-
-same-length : tie.Need-same-length
-same-length c = search needs
 
 returns : tie.Need-returns
 unfolding encode code
@@ -56,14 +47,6 @@ returns c =
     (then (then (c .before .before .before .before .before .before .before .before .before .before .before .before .before .before .push-u8-at .ensures) (c .before .before .before .before .before .before .before .before .before .before .push-u8-at2 .ensures)) (then (c .before .before .before .before .before .before .push-prefix-metric .ensures) (c .before .before .push-ipv6-at .ensures)))
 
 pub push-prefix-fields-spec : {M : Type 1} → statement M
-push-prefix-fields-spec =
-    tie.close
-    (tie.spec
-    push-u8-at-requires
-    add-push-u8-at
-    push-u8-at-requires-2
-    push-prefix-metric-requires
-    add-push-ipv6-at
-    push-ipv6-at-requires
-    same-length
-    returns)
+push-prefix-fields-spec = tie.close (tie.spec
+    push-u8-at-requires (search needs) push-u8-at-requires-2 push-prefix-metric-requires (search needs)
+    push-ipv6-at-requires (search needs) returns)

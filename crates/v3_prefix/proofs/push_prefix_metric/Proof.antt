@@ -5,17 +5,11 @@ use Rattle.format.proofs.Wrote.{nothing}
 use Rattle.v3_prefix.proofs.push_prefix_metric.Statement.{statement}
 use Rattle.v3_prefix.proofs.push_prefix_metric.Tie as tie
 
-add-push-u16-at : tie.Need-add-push-u16-at
-add-push-u16-at c = search needs
-
 push-u16-at-requires : tie.Need-push-u16-at-requires
 unfolding encode code
 push-u16-at-requires c κs =
     let h = rw (c .before .if1 .taken) at (c .before .before .before .before .pre .0) in
     omega arith
-
-same-length : tie.Need-same-length
-same-length c = search needs
 
 returns : tie.Need-returns
 unfolding encode code
@@ -26,5 +20,4 @@ unfolding encode code
 returns-2 c = rw (c .if1 .left) (nothing _ _)
 
 pub push-prefix-metric-spec : {M : Type 1} → statement M
-push-prefix-metric-spec =
-    tie.close (tie.spec add-push-u16-at push-u16-at-requires same-length returns returns-2)
+push-prefix-metric-spec = tie.close (tie.spec (search needs) push-u16-at-requires (search needs) returns returns-2)

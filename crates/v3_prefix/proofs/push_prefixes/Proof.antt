@@ -10,9 +10,6 @@ use Rattle.format.proofs.Loop.{spread}
 use Rattle.v3_prefix.proofs.push_prefixes.Statement.{statement}
 use Rattle.v3_prefix.proofs.push_prefixes.Tie as tie
 
-add-push-prefix-entries : tie.Need-add-push-prefix-entries
-add-push-prefix-entries c = search needs
-
 push-prefix-entries-requires : tie.Need-push-prefix-entries-requires
 unfolding spread code
 push-prefix-entries-requires c κs =
@@ -21,18 +18,6 @@ push-prefix-entries-requires c κs =
     let ss = cut prefixRule b (s .count) (s .p) in
     let l = length-listing 29 (prefix (s .with-metric) b (s .o)) (s .o) (s .p) ss in
     omega arith
-
-cast-begin-container : tie.Need-cast-begin-container
-cast-begin-container c = search needs
-
-add-begin-container : tie.Need-add-begin-container
-add-begin-container c = search needs
-
-cast-begin-container-2 : tie.Need-cast-begin-container-2
-cast-begin-container-2 c = search needs
-
-add-begin-container-2 : tie.Need-add-begin-container-2
-add-begin-container-2 c = search needs
 
 begin-container-requires : tie.Need-begin-container-requires
 unfolding spread code
@@ -52,9 +37,6 @@ end-container-requires c κs =
     let l = length-listing 29 (prefix (s .with-metric) b (s .o)) (s .o) (s .p) ss in
     omega arith
 
-same-length : tie.Need-same-length
-same-length c = search needs
-
 returns : tie.Need-returns
 returns c =
     let s = c .before .before .before .before .before .before .before .before .before .before .before .before .before .before .before .args in
@@ -64,16 +46,6 @@ returns c =
     (listed-last 29 (prefix (s .with-metric) b (s .o)) (s .o) (s .p) ss (ap (λ (x : ℕ). s .o + x) (sym (k .1 .0))) (k .0) (c .before .before .before .before .before .before .begin-container .ensures) (c .before .before .end-container .ensures), k .1 .0)
 
 pub push-prefixes-spec : {M : Type 1} → statement M
-push-prefixes-spec =
-    tie.close
-    (tie.spec
-    add-push-prefix-entries
-    push-prefix-entries-requires
-    cast-begin-container
-    add-begin-container
-    cast-begin-container-2
-    add-begin-container-2
-    begin-container-requires
-    end-container-requires
-    same-length
-    returns)
+push-prefixes-spec = tie.close (tie.spec
+    (search needs) push-prefix-entries-requires (search needs) (search needs) (search needs) (search needs)
+    begin-container-requires end-container-requires (search needs) returns)

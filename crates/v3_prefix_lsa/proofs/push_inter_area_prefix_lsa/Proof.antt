@@ -13,12 +13,6 @@ use Rattle.v3_prefix.proofs.Fits.{some-of, none-of}
 use Rattle.v3_prefix_lsa.proofs.push_inter_area_prefix_lsa.Statement.{statement}
 use Rattle.v3_prefix_lsa.proofs.push_inter_area_prefix_lsa.Tie as tie
 
-fixed-prefix-fits-requires : tie.Need-fixed-prefix-fits-requires
-fixed-prefix-fits-requires c κs = search needs
-
-enum-known-n : tie.Need-enum-known-n
-enum-known-n c = search needs
-
 enum-told : tie.Need-enum-told
 enum-told c = search needs
 
@@ -77,9 +71,6 @@ add-t19 c =
     let i = fits-inside b (getD b 4 0) 8 _ (fits (c .before .before .before .before .before .before .before .before .before .before .before .before .before .before .before .before)) in
     omega arith
 
-same-length : tie.Need-same-length
-same-length c = search needs
-
 returns-2 : tie.Need-returns-2
 unfolding encode code
 returns-2 c =
@@ -88,17 +79,6 @@ returns-2 c =
     (then (then (then (c .before .before .before .before .before .before .before .before .before .before .before .before .before .before .push-metric24-at .ensures) (c .before .before .before .before .before .before .before .before .before .before .push-u8-at .ensures)) (c .before .before .before .before .before .before .push-u8-at2 .ensures)) (c .before .before .push-ipv6-at .ensures)))
 
 pub push-inter-area-prefix-lsa-spec : {M : Type 1} → statement M
-push-inter-area-prefix-lsa-spec =
-    tie.close
-    (tie.spec
-    fixed-prefix-fits-requires
-    enum-known-n
-    enum-told
-    returns
-    push-metric24-at-requires
-    push-u8-at-requires
-    push-u8-at-requires-2
-    push-ipv6-at-requires
-    add-t19
-    same-length
-    returns-2)
+push-inter-area-prefix-lsa-spec = tie.close (tie.spec
+    (search needs) (search needs) enum-told returns push-metric24-at-requires push-u8-at-requires push-u8-at-requires-2
+    push-ipv6-at-requires add-t19 (search needs) returns-2)

@@ -27,21 +27,12 @@ push-references-requires c κs =
     let h = rw (le-ltb (length (s .args .body .now)) 12 (omega arith)) at (s .pre .0) in
     omega arith
 
-read-be-u16-requires : tie.Need-read-be-u16-requires
-read-be-u16-requires c κs = search needs
-
-cast-push-prefixes : tie.Need-cast-push-prefixes
-cast-push-prefixes c = search needs
-
 push-prefixes-requires : tie.Need-push-prefixes-requires
 unfolding intraAreaPrefixLsa encode code
 push-prefixes-requires c κs =
     let s = c .before .before .before .before .before .before .before .before .before .before .before .before .before in
     let h = rw (le-ltb (length (s .args .body .now)) 12 (omega arith)) at (s .pre .0) in
     rw (c .read-be-u16 .ensures) (omega arith)
-
-same-length : tie.Need-same-length
-same-length c = search needs
 
 returns-2 : tie.Need-returns-2
 unfolding intraAreaPrefixLsa encode code
@@ -52,14 +43,6 @@ returns-2 c =
     (then (then (c .before .before .before .before .before .before .before .before .before .before .before .push-wide16-at .ensures) (c .before .before .before .before .before .before .before .push-references .ensures)) (k .0)))
 
 pub push-intra-area-prefix-lsa-spec : {M : Type 1} → statement M
-push-intra-area-prefix-lsa-spec =
-    tie.close
-    (tie.spec
-    returns
-    push-wide16-at-requires
-    push-references-requires
-    read-be-u16-requires
-    cast-push-prefixes
-    push-prefixes-requires
-    same-length
-    returns-2)
+push-intra-area-prefix-lsa-spec = tie.close (tie.spec
+    returns push-wide16-at-requires push-references-requires (search needs) (search needs) push-prefixes-requires
+    (search needs) returns-2)

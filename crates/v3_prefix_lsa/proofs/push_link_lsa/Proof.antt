@@ -41,18 +41,12 @@ push-u32-at-requires c κs =
     let h = rw (le-ltb (length (s .args .body .now)) 24 (omega arith)) at (s .pre .0) in
     omega arith
 
-read-be-u32-requires : tie.Need-read-be-u32-requires
-read-be-u32-requires c κs = search needs
-
 push-prefixes-requires : tie.Need-push-prefixes-requires
 unfolding linkLsa encode code
 push-prefixes-requires c κs =
     let s = c .before .before .before .before .before .before .before .before .before .before .before .before .before .before .before .before .before .before .before .before .before in
     let h = rw (le-ltb (length (s .args .body .now)) 24 (omega arith)) at (s .pre .0) in
     rw (c .read-be-u32 .ensures) (omega arith)
-
-same-length : tie.Need-same-length
-same-length c = search needs
 
 returns-2 : tie.Need-returns-2
 unfolding linkLsa encode code
@@ -63,15 +57,6 @@ returns-2 c =
     (then (then (then (then (c .before .before .before .before .before .before .before .before .before .before .before .before .before .before .before .before .before .before .before .push-u8-at .ensures) (c .before .before .before .before .before .before .before .before .before .before .before .before .before .before .before .push-options .ensures)) (c .before .before .before .before .before .before .before .before .before .before .before .push-ipv6-at .ensures)) (c .before .before .before .before .before .before .before .push-u32-at .ensures)) (k .0)))
 
 pub push-link-lsa-spec : {M : Type 1} → statement M
-push-link-lsa-spec =
-    tie.close
-    (tie.spec
-    returns
-    push-u8-at-requires
-    push-options-requires
-    push-ipv6-at-requires
-    push-u32-at-requires
-    read-be-u32-requires
-    push-prefixes-requires
-    same-length
-    returns-2)
+push-link-lsa-spec = tie.close (tie.spec
+    returns push-u8-at-requires push-options-requires push-ipv6-at-requires push-u32-at-requires (search needs)
+    push-prefixes-requires (search needs) returns-2)

@@ -1,23 +1,8 @@
-use native.Mathlib.Omega.{arith}
 use borrow.Author.Needs.{needs}
 use Rattle.format.specs.Strip.{encode, code}
 use Rattle.format.proofs.Wrote.{then}
 use Rattle.v3_prefix_lsa.proofs.push_references.Statement.{statement}
 use Rattle.v3_prefix_lsa.proofs.push_references.Tie as tie
-
-push-u16-at-requires : tie.Need-push-u16-at-requires
-push-u16-at-requires c κs = search needs
-
-push-u32-at-requires : tie.Need-push-u32-at-requires
-unfolding code encode
-push-u32-at-requires c κs = omega arith
-
-push-ipv4-at-requires : tie.Need-push-ipv4-at-requires
-unfolding code encode
-push-ipv4-at-requires c κs = omega arith
-
-same-length : tie.Need-same-length
-same-length c = search needs
 
 returns : tie.Need-returns
 unfolding encode code
@@ -28,6 +13,5 @@ returns c =
     then (then (k1 .push-u16-at .ensures) (k2 .push-u32-at .ensures)) (k3 .push-ipv4-at .ensures)
 
 pub push-references-spec : {M : Type 1} → statement M
-push-references-spec =
-    tie.close
-    (tie.spec push-u16-at-requires push-u32-at-requires push-ipv4-at-requires same-length returns)
+unfolding code encode
+push-references-spec = tie.close (tie.spec (search needs) (search needs) (search needs) (search needs) returns)

@@ -27,15 +27,6 @@ abbrev μ-loop : tie.MeasureT-loop
 loop-holds : tie.Need-loop-holds Inv-loop μ-loop
 loop-holds c = (λ o. measure-begin recordRule _ _ _ 4, omega arith, omega arith)
 
-record-fits-requires : tie.Need-record-fits-requires Inv-loop μ-loop
-record-fits-requires c κs = search needs
-
-enum-known-n : tie.Need-enum-known-n Inv-loop μ-loop
-enum-known-n c = search needs
-
-enum-told : tie.Need-enum-told Inv-loop μ-loop
-enum-told c = search needs
-
 fits : (c : tie.After-known-told Inv-loop μ-loop) → recordRule (c .before .before .before .before .before .before .before .args .data .now) (c .before .before .before .before .before .loop .pos) ≡ some (c .before .n .given .0 .0)
 fits c = some-of _ _ (c .before .before .before .record-fits .result) (c .before .before .before .record-fits .ensures) (c .before .n .given .1)
 
@@ -93,12 +84,6 @@ add-total-2 c =
     let a = rw q at (c .before .measure-lsa .ensures .0) in
     omega (arith, next (c .before .before .before), length-lsa-object (s .version) (s .data .now) 0 p n, a (0 + p))
 
-sub-left : tie.Need-sub-left Inv-loop μ-loop
-sub-left c = omega arith
-
-loop-less : tie.Need-loop-less Inv-loop μ-loop
-loop-less c = omega arith
-
 loop-again : tie.Need-loop-again Inv-loop μ-loop
 loop-again c =
     let h = inside 20 _ _ _ _ (fits (c .before .before .before)) in
@@ -128,12 +113,6 @@ stopped c =
     (λ w. (cut-none recordRule d (l .left) (l .pos) (none-of (recordRule d (l .pos)) (w .1 .result) (w .1 .ensures) (w .3 .given .1)), w .4))
     (c .if1 .came)
 
-sub-t19 : tie.Need-sub-t19 Inv-loop μ-loop
-sub-t19 c = omega arith
-
-cast-t20 : tie.Need-cast-t20 Inv-loop μ-loop
-cast-t20 c = omega arith
-
 returns : tie.Need-returns Inv-loop μ-loop
 unfolding spread
 returns c =
@@ -144,25 +123,7 @@ returns c =
     (λ o. measure-finish recordRule _ _ _ 4 (l .inv .0 o) (e .0) .0, (sym (f .2), (e .1 ∙ f .1, (omega (arith, e .1), omega (arith, f .0, lsas-bound (s .version) (s .data .now) 0 (s .count))))))
 
 pub measure-lsas-spec : {M : Type 1} → statement M
-measure-lsas-spec =
-    tie.close
-    (tie.spec
-    Inv-loop
-    μ-loop
-    loop-holds
-    record-fits-requires
-    enum-known-n
-    enum-told
-    add-q
-    add-total
-    sub-measure-lsa
-    part-measure-lsa-start
-    part-measure-lsa-end
-    measure-lsa-requires
-    add-total-2
-    sub-left
-    loop-less
-    loop-again
-    sub-t19
-    cast-t20
-    returns)
+measure-lsas-spec = tie.close (tie.spec
+    Inv-loop μ-loop loop-holds (search needs) (search needs) (search needs) add-q add-total sub-measure-lsa
+    part-measure-lsa-start part-measure-lsa-end measure-lsa-requires add-total-2 (search needs) (search needs)
+    loop-again (search needs) (search needs) returns)

@@ -11,15 +11,6 @@ use borrow.Author.Needs.{needs}
 use Rattle.common.proofs.update.push_lsa_object.Statement.{statement}
 use Rattle.common.proofs.update.push_lsa_object.Tie as tie
 
-add-q : tie.Need-add-q
-add-q c = search needs
-
-cast-start : tie.Need-cast-start
-cast-start c = search needs
-
-add-start : tie.Need-add-start
-add-start c = search needs
-
 begin-container-at-requires : tie.Need-begin-container-at-requires
 unfolding code
 begin-container-at-requires c κs =
@@ -28,15 +19,6 @@ begin-container-at-requires c κs =
     let l = length-lsa-object (s .args .version) d (s .args .o) (s .args .pos) (s .args .n) in
     let n = part-length d (s .args .pos) (s .args .n) (omega arith) in
     omega arith
-
-sub-push-lsa-at : tie.Need-sub-push-lsa-at
-sub-push-lsa-at c = search needs
-
-part-push-lsa-at-start : tie.Need-part-push-lsa-at-start
-part-push-lsa-at-start c = search needs
-
-part-push-lsa-at-end : tie.Need-part-push-lsa-at-end
-part-push-lsa-at-end c = search needs
 
 push-lsa-at-requires : tie.Need-push-lsa-at-requires
 unfolding code
@@ -59,9 +41,6 @@ end-container-requires c κs =
     let w = rw q at (c .before .before .before .push-lsa-at .ensures) in
     omega (arith, w .place, kept w)
 
-same-length : tie.Need-same-length
-same-length c = search needs
-
 returns : tie.Need-returns
 unfolding lsaObject
 returns c =
@@ -71,17 +50,6 @@ returns c =
     contained 113 _ _ _ w (rw q at (c .before .before .before .before .before .before .push-lsa-at .ensures)) (c .before .before .end-container .ensures)
 
 pub push-lsa-object-spec : {M : Type 1} → statement M
-push-lsa-object-spec =
-    tie.close
-    (tie.spec
-    add-q
-    cast-start
-    add-start
-    begin-container-at-requires
-    sub-push-lsa-at
-    part-push-lsa-at-start
-    part-push-lsa-at-end
-    push-lsa-at-requires
-    end-container-requires
-    same-length
-    returns)
+push-lsa-object-spec = tie.close (tie.spec
+    (search needs) (search needs) (search needs) begin-container-at-requires (search needs) (search needs)
+    (search needs) push-lsa-at-requires end-container-requires (search needs) returns)

@@ -23,12 +23,6 @@ abbrev μ-loop : tie.MeasureT-loop
 loop-holds : tie.Need-loop-holds Inv-loop μ-loop
 loop-holds c = (begin recordRule _ _ _ 4 _ _ _ _ refl refl, omega arith)
 
-record-fits-requires : tie.Need-record-fits-requires Inv-loop μ-loop
-record-fits-requires c κs = search needs
-
-enum-known-n : tie.Need-enum-known-n Inv-loop μ-loop
-enum-known-n c = search needs
-
 enum-told : tie.Need-enum-told Inv-loop μ-loop
 enum-told c = search needs
 
@@ -47,12 +41,6 @@ add-pos : tie.Need-add-pos Inv-loop μ-loop
 add-pos c =
     let h = inside 20 _ _ _ _ (fits (c .before .before .before)) in
     omega (arith, h .within)
-
-sub-left : tie.Need-sub-left Inv-loop μ-loop
-sub-left c = search needs
-
-loop-less : tie.Need-loop-less Inv-loop μ-loop
-loop-less c = search needs
 
 loop-again : tie.Need-loop-again Inv-loop μ-loop
 loop-again c =
@@ -76,21 +64,6 @@ unfolding spread
 returns-2 c = finish recordRule _ _ _ 4 _ _ (c .before .before .before .before .loop .inv .0) (cut-none recordRule _ _ _ (none-of _ (c .before .before .record-fits .result) (c .before .before .record-fits .ensures) (c .enum-told .given .1))) .0
 
 pub push-lsas-spec : {M : Type 1} → statement M
-push-lsas-spec =
-    tie.close
-    (tie.spec
-    Inv-loop
-    μ-loop
-    loop-holds
-    record-fits-requires
-    enum-known-n
-    enum-told
-    push-lsa-object-requires
-    add-pos
-    sub-left
-    loop-less
-    loop-again
-    same-length
-    returns
-    same-length-2
-    returns-2)
+push-lsas-spec = tie.close (tie.spec
+    Inv-loop μ-loop loop-holds (search needs) (search needs) enum-told push-lsa-object-requires add-pos (search needs)
+    (search needs) loop-again same-length returns same-length-2 returns-2)

@@ -14,12 +14,6 @@ use borrow.Author.Needs.{needs}
 use Rattle.common.proofs.update.push_lsu_lsas.Statement.{statement}
 use Rattle.common.proofs.update.push_lsu_lsas.Tie as tie
 
-refusal-of-requires : tie.Need-refusal-of-requires
-refusal-of-requires c κs = search needs
-
-refused-requires : tie.Need-refused-requires
-refused-requires c κs = search needs
-
 returns : tie.Need-returns
 unfolding updateOf
 returns c =
@@ -63,9 +57,6 @@ add-length c =
     let m = limits v d o 4 z in
     omega arith
 
-measure-unparsed-requires : tie.Need-measure-unparsed-requires
-measure-unparsed-requires c κs = search needs
-
 -- the lengths that are added are those of the whole strip, and their sum is bounded
 whole : (c : tie.After-measure-unparsed) →
     let s = c .before .before .before .before .before .before .before .args in
@@ -84,9 +75,6 @@ whole c =
 
 add-length-2 : tie.Need-add-length-2
 add-length-2 c = let w = whole c in omega arith
-
-no-room-requires : tie.Need-no-room-requires
-no-room-requires c κs = search needs
 
 returns-2 : tie.Need-returns-2
 unfolding updateOf
@@ -136,12 +124,6 @@ write-lsas-requires c κs =
     let size = whole (c .before .before) in
     (omega arith, (omega arith, (omega arith, (omega arith, (q, omega arith)))))
 
-sub-t12 : tie.Need-sub-t12
-sub-t12 c = search needs
-
-same-length : tie.Need-same-length
-same-length c = search needs
-
 returns-3 : tie.Need-returns-3
 unfolding updateOf
 returns-3 c =
@@ -161,20 +143,6 @@ returns-3 c =
     (rw (w .0, ← size .0, ← c .before .before .before .before .before .before .before .measure-lsas .ensures .1 .0, ← q) refl, (c .before .before .write-lsas .ensures .contents ∙ sym (w .1), omega arith))
 
 pub push-lsu-lsas-spec : {M : Type 1} → statement M
-push-lsu-lsas-spec =
-    tie.close
-    (tie.spec
-    refusal-of-requires
-    refused-requires
-    returns
-    measure-lsas-requires
-    add-length
-    measure-unparsed-requires
-    add-length-2
-    no-room-requires
-    returns-2
-    cast-write-lsas
-    write-lsas-requires
-    sub-t12
-    same-length
-    returns-3)
+push-lsu-lsas-spec = tie.close (tie.spec
+    (search needs) (search needs) returns measure-lsas-requires add-length (search needs) add-length-2 (search needs)
+    returns-2 cast-write-lsas write-lsas-requires (search needs) (search needs) returns-3)

@@ -9,24 +9,12 @@ use borrow.Author.Needs.{needs}
 use Rattle.common.proofs.update.record_fits.Statement.{statement}
 use Rattle.common.proofs.update.record_fits.Tie as tie
 
-sub-left : tie.Need-sub-left
-sub-left c = search needs
-
 returns : tie.Need-returns
 unfolding standing
 returns c =
     let d = c .before .before .args .data .now in
     let p = c .before .before .args .pos in
     rw (lt-leb (p + 20) (length d) (omega arith))
-
-add-read-be-u16 : tie.Need-add-read-be-u16
-add-read-be-u16 c = search needs
-
-read-be-u16-requires : tie.Need-read-be-u16-requires
-read-be-u16-requires c κs = search needs
-
-cast-n : tie.Need-cast-n
-cast-n c = search needs
 
 returns-2 : tie.Need-returns-2
 unfolding standing
@@ -53,14 +41,4 @@ returns-4 c =
     rw (le-leb (p + 20) (length d) (omega arith), le-leb 20 (be16At d (p + 18)) (omega arith), le-leb (p + be16At d (p + 18)) (length d) (omega arith), n)
 
 pub record-fits-spec : {M : Type 1} → statement M
-record-fits-spec =
-    tie.close
-    (tie.spec
-    sub-left
-    returns
-    add-read-be-u16
-    read-be-u16-requires
-    cast-n
-    returns-2
-    returns-3
-    returns-4)
+record-fits-spec = tie.close (tie.spec (search needs) returns (search needs) (search needs) (search needs) returns-2 returns-3 returns-4)

@@ -11,15 +11,6 @@ use borrow.Author.Needs.{needs}
 use Rattle.common.proofs.update.write_lsas.Statement.{statement}
 use Rattle.common.proofs.update.write_lsas.Tie as tie
 
-add-begin-container : tie.Need-add-begin-container
-add-begin-container c = search needs
-
-cast-begin-container : tie.Need-cast-begin-container
-cast-begin-container c = search needs
-
-add-begin-container-2 : tie.Need-add-begin-container-2
-add-begin-container-2 c = search needs
-
 begin-container-requires : tie.Need-begin-container-requires
 begin-container-requires c κs =
     let s = c .before .before .before in
@@ -52,9 +43,6 @@ end-container-requires c κs =
     let l = length-outer v (lsaObject v d o) d o 4 (lsas d (s .args .count)) in
     omega arith
 
-unparsed-id-requires : tie.Need-unparsed-id-requires
-unparsed-id-requires c κs = search needs
-
 push-unparsed-requires : tie.Need-push-unparsed-requires
 unfolding code
 push-unparsed-requires c κs =
@@ -68,9 +56,6 @@ push-unparsed-requires c κs =
     let u = ap (λ (i : ℕ). length (encode (leftover i d o (s .args .end)))) (c .unparsed-id .ensures) in
     omega arith
 
-same-length : tie.Need-same-length
-same-length c = search needs
-
 returns : tie.Need-returns
 returns c =
     let s = c .before .before .before .before .before .before .before .before .before .before .before .before .before .before .before .before .before .before .before in
@@ -82,16 +67,6 @@ returns c =
     outer-wrote v (lsaObject v d o) d o 4 (lsas d (s .args .count)) refl (ap (λ (x : ℕ). o + x) (sym e)) (sym (c .before .before .before .unparsed-id .ensures)) (sym e) (c .before .before .before .before .before .before .before .before .before .before .before .before .before .before .before .begin-container .ensures) (c .before .before .before .before .before .before .before .before .before .before .before .push-lsas .ensures) (c .before .before .before .before .before .before .before .end-container .ensures) (c .before .before .push-unparsed .ensures)
 
 pub write-lsas-spec : {M : Type 1} → statement M
-write-lsas-spec =
-    tie.close
-    (tie.spec
-    add-begin-container
-    cast-begin-container
-    add-begin-container-2
-    begin-container-requires
-    push-lsas-requires
-    end-container-requires
-    unparsed-id-requires
-    push-unparsed-requires
-    same-length
-    returns)
+write-lsas-spec = tie.close (tie.spec
+    (search needs) (search needs) (search needs) begin-container-requires push-lsas-requires end-container-requires
+    (search needs) push-unparsed-requires (search needs) returns)

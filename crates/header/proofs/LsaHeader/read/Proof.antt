@@ -7,9 +7,6 @@ use Rattle.format.specs.Header.{readHeader}
 use Rattle.header.proofs.LsaHeader.read.Statement.{statement}
 use Rattle.header.proofs.LsaHeader.read.Tie as tie
 
-is-known-requires : tie.Need-is-known-requires
-is-known-requires c κs = search needs
-
 returns : tie.Need-returns
 unfolding readHeader
 returns c = rw (sym (c .before .is-known .ensures) ∙ not-true _ (c .if1 .taken))
@@ -20,12 +17,6 @@ returns-2 c =
     let s = c .before .before .before .before .args in
     let k = sym (c .before .before .is-known .ensures) ∙ not-false _ (c .before .if1 .left) in
     rw (k, lt-ltb (length (s .bytes .now)) 20 (omega arith))
-
-v2-requires : tie.Need-v2-requires
-v2-requires c κs = search needs
-
-v3-requires : tie.Need-v3-requires
-v3-requires c κs = search needs
 
 returns-3 : tie.Need-returns-3
 unfolding readHeader
@@ -42,6 +33,4 @@ returns-4 c =
     rw (k, le-ltb (length (s .bytes .now)) 20 (omega arith), ne-eqb (s .version) 2 (c .before .if3 .left), c .v3 .ensures)
 
 pub read-spec : {M : Type 1} → statement M
-read-spec =
-    tie.close
-    (tie.spec is-known-requires returns returns-2 v2-requires v3-requires returns-3 returns-4)
+read-spec = tie.close (tie.spec (search needs) returns returns-2 (search needs) (search needs) returns-3 returns-4)

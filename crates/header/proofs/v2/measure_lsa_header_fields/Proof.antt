@@ -5,12 +5,6 @@ use borrow.Author.Needs.{needs}
 use Rattle.header.proofs.v2.measure_lsa_header_fields.Statement.{statement}
 use Rattle.header.proofs.v2.measure_lsa_header_fields.Tie as tie
 
-shared-slice-read-is-opaque : tie.Need-shared-slice-read-is-opaque
-shared-slice-read-is-opaque c = search needs
-
-is-opaque-requires : tie.Need-is-opaque-requires
-is-opaque-requires c κs = search needs
-
 returns : tie.Need-returns
 unfolding headerEntries2 encode code
 returns c = λ o. rw (sym (c .before .is-opaque .ensures) ∙ c .if1 .taken)
@@ -20,5 +14,4 @@ unfolding headerEntries2 encode code
 returns-2 c = λ o. rw (sym (c .before .is-opaque .ensures) ∙ c .if1 .left)
 
 pub measure-lsa-header-fields-spec : {M : Type 1} → statement M
-measure-lsa-header-fields-spec =
-    tie.close (tie.spec shared-slice-read-is-opaque is-opaque-requires returns returns-2)
+measure-lsa-header-fields-spec = tie.close (tie.spec (search needs) (search needs) returns returns-2)

@@ -1,31 +1,8 @@
 use Rattle.format.specs.Strip.{encode, code}
 use Rattle.format.proofs.Wrote.{then}
-use native.Mathlib.Omega.{arith}
 use borrow.Author.Needs.{needs}
 use Rattle.header.proofs.v2.push_identity_fields.Statement.{statement}
 use Rattle.header.proofs.v2.push_identity_fields.Tie as tie
-
-push-u16-at-requires : tie.Need-push-u16-at-requires
-push-u16-at-requires c κs = search needs
-
-push-u8-at-requires : tie.Need-push-u8-at-requires
-unfolding code
-push-u8-at-requires c κs = omega arith
-
-push-u8-at-requires-2 : tie.Need-push-u8-at-requires-2
-unfolding code
-push-u8-at-requires-2 c κs = omega arith
-
-push-ipv4-at-requires : tie.Need-push-ipv4-at-requires
-unfolding code
-push-ipv4-at-requires c κs = omega arith
-
-push-ipv4-at-requires-2 : tie.Need-push-ipv4-at-requires-2
-unfolding code
-push-ipv4-at-requires-2 c κs = omega arith
-
-same-length : tie.Need-same-length
-same-length c = search needs
 
 returns : tie.Need-returns
 unfolding encode code
@@ -38,13 +15,5 @@ returns c =
     then (then (then (then (k1 .push-u16-at .ensures) (k2 .push-u8-at .ensures)) (k3 .push-u8-at2 .ensures)) (k4 .push-ipv4-at .ensures)) (k5 .push-ipv4-at2 .ensures)
 
 pub push-identity-fields-spec : {M : Type 1} → statement M
-push-identity-fields-spec =
-    tie.close
-    (tie.spec
-    push-u16-at-requires
-    push-u8-at-requires
-    push-u8-at-requires-2
-    push-ipv4-at-requires
-    push-ipv4-at-requires-2
-    same-length
-    returns)
+unfolding code
+push-identity-fields-spec = tie.close (tie.spec (search needs) (search needs) (search needs) (search needs) (search needs) (search needs) returns)

@@ -7,20 +7,6 @@ use borrow.Author.Needs.{needs}
 use Rattle.header.proofs.v2.push_lsa_header_fields.Statement.{statement}
 use Rattle.header.proofs.v2.push_lsa_header_fields.Tie as tie
 
-push-identity-fields-requires : tie.Need-push-identity-fields-requires
-unfolding headerEntries2 encode code
-push-identity-fields-requires c κs = omega arith
-
-push-instance-fields-requires : tie.Need-push-instance-fields-requires
-unfolding headerEntries2 encode code
-push-instance-fields-requires c κs = omega arith
-
-shared-slice-read-is-opaque : tie.Need-shared-slice-read-is-opaque
-shared-slice-read-is-opaque c = search needs
-
-is-opaque-requires : tie.Need-is-opaque-requires
-is-opaque-requires c κs = search needs
-
 push-opaque-fields-requires : tie.Need-push-opaque-fields-requires
 unfolding headerEntries2 encode code
 push-opaque-fields-requires c κs =
@@ -28,17 +14,11 @@ push-opaque-fields-requires c κs =
     let h = rw t at (c .before .before .before .before .before .before .before .before .before .before .before .before .before .before .pre .0) in
     omega arith
 
-same-length : tie.Need-same-length
-same-length c = search needs
-
 returns : tie.Need-returns
 unfolding headerEntries2 encode code
 returns c =
     let t = sym (c .before .before .before .before .before .is-opaque .ensures) ∙ c .before .before .before .before .if1 .taken in
     rw t (then (then (c .before .before .before .before .before .before .before .before .before .before .before .before .before .push-identity-fields .ensures) (c .before .before .before .before .before .before .before .before .before .push-instance-fields .ensures)) (c .before .before .push-opaque-fields .ensures))
-
-same-length-2 : tie.Need-same-length-2
-same-length-2 c = search needs
 
 returns-2 : tie.Need-returns-2
 unfolding headerEntries2 encode code
@@ -47,15 +27,7 @@ returns-2 c =
     rw t (then (c .before .before .before .before .before .before .before .before .before .push-identity-fields .ensures) (c .before .before .before .before .before .push-instance-fields .ensures))
 
 pub push-lsa-header-fields-spec : {M : Type 1} → statement M
-push-lsa-header-fields-spec =
-    tie.close
-    (tie.spec
-    push-identity-fields-requires
-    push-instance-fields-requires
-    shared-slice-read-is-opaque
-    is-opaque-requires
-    push-opaque-fields-requires
-    same-length
-    returns
-    same-length-2
-    returns-2)
+unfolding headerEntries2 encode code
+push-lsa-header-fields-spec = tie.close (tie.spec
+    (search needs) (search needs) (search needs) (search needs) push-opaque-fields-requires (search needs) returns
+    (search needs) returns-2)

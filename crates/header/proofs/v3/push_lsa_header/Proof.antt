@@ -10,15 +10,6 @@ use borrow.Author.Needs.{needs}
 use Rattle.header.proofs.v3.push_lsa_header.Statement.{statement}
 use Rattle.header.proofs.v3.push_lsa_header.Tie as tie
 
-sub-push-lsa-header-fields : tie.Need-sub-push-lsa-header-fields
-sub-push-lsa-header-fields c = search needs
-
-part-push-lsa-header-fields-start : tie.Need-part-push-lsa-header-fields-start
-part-push-lsa-header-fields-start c = search needs
-
-part-push-lsa-header-fields-end : tie.Need-part-push-lsa-header-fields-end
-part-push-lsa-header-fields-end c = search needs
-
 slice-aggregate-push-lsa-header-fields : tie.Need-slice-aggregate-push-lsa-header-fields
 slice-aggregate-push-lsa-header-fields c = sym (length-take-le 20 (c .before .before .before .before .args .lsa .now) (omega arith))
 
@@ -35,23 +26,12 @@ add-result c =
     let w = rw (front3 (s .args .lsa .now) (s .args .o)) at (c .before .before .push-lsa-header-fields .ensures) in
     omega (arith, w .place)
 
-same-length : tie.Need-same-length
-same-length c = search needs
-
 returns : tie.Need-returns
 returns c =
     let s = c .before .before .before .before .before .before .before in
     lent (s .pre .0) (rw (front3 (s .args .lsa .now) (s .args .o)) at (c .before .before .push-lsa-header-fields .ensures))
 
 pub push-lsa-header-spec : {M : Type 1} → statement M
-push-lsa-header-spec =
-    tie.close
-    (tie.spec
-    sub-push-lsa-header-fields
-    part-push-lsa-header-fields-start
-    part-push-lsa-header-fields-end
-    slice-aggregate-push-lsa-header-fields
-    push-lsa-header-fields-requires
-    add-result
-    same-length
-    returns)
+push-lsa-header-spec = tie.close (tie.spec
+    (search needs) (search needs) (search needs) slice-aggregate-push-lsa-header-fields push-lsa-header-fields-requires
+    add-result (search needs) returns)

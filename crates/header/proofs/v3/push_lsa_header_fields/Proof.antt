@@ -1,21 +1,9 @@
 use Rattle.format.specs.Header.{headerEntries3}
 use Rattle.format.specs.Strip.{encode, code}
 use Rattle.format.proofs.Wrote.{then}
-use native.Mathlib.Omega.{arith}
 use borrow.Author.Needs.{needs}
 use Rattle.header.proofs.v3.push_lsa_header_fields.Statement.{statement}
 use Rattle.header.proofs.v3.push_lsa_header_fields.Tie as tie
-
-push-identity-fields-requires : tie.Need-push-identity-fields-requires
-unfolding headerEntries3 encode code
-push-identity-fields-requires c κs = omega arith
-
-push-instance-fields-requires : tie.Need-push-instance-fields-requires
-unfolding headerEntries3 encode code
-push-instance-fields-requires c κs = omega arith
-
-same-length : tie.Need-same-length
-same-length c = search needs
 
 returns : tie.Need-returns
 unfolding headerEntries3 encode code
@@ -25,6 +13,5 @@ returns c =
     then (k1 .push-identity-fields .ensures) (k2 .push-instance-fields .ensures)
 
 pub push-lsa-header-fields-spec : {M : Type 1} → statement M
-push-lsa-header-fields-spec =
-    tie.close
-    (tie.spec push-identity-fields-requires push-instance-fields-requires same-length returns)
+unfolding headerEntries3 encode code
+push-lsa-header-fields-spec = tie.close (tie.spec (search needs) (search needs) (search needs) returns)

@@ -9,9 +9,6 @@ use borrow.Author.Needs.{needs}
 use Rattle.reader.proofs.part.packet_part.Statement.{statement}
 use Rattle.reader.proofs.part.packet_part.Tie as tie
 
-lies-in-requires : tie.Need-lies-in-requires
-lies-in-requires c κs = search needs
-
 sub-a : tie.Need-sub-a
 sub-a c = let l = lies _ _ _ _ (sym (c .before .lies-in .ensures) ∙ c .if1 .taken) in omega arith
 
@@ -26,9 +23,6 @@ part-result-start c = let l = lies _ _ _ _ (sym (c .before .lies-in .ensures) �
 
 part-result-end : tie.Need-part-result-end
 part-result-end c = let l = lies _ _ _ _ (sym (c .before .lies-in .ensures) ∙ c .if1 .taken) in search needs
-
-slice-aggregate-result : tie.Need-slice-aggregate-result
-slice-aggregate-result c = search needs
 
 returns : tie.Need-returns
 unfolding partOf partPlace
@@ -48,15 +42,4 @@ returns-2 c =
     (rw t, rw (t, add-zero))
 
 pub packet-part-spec : {M : Type 1} → statement M
-packet-part-spec =
-    tie.close
-    (tie.spec
-    lies-in-requires
-    sub-a
-    sub-e
-    sub-result
-    part-result-start
-    part-result-end
-    slice-aggregate-result
-    returns
-    returns-2)
+packet-part-spec = tie.close (tie.spec (search needs) sub-a sub-e sub-result part-result-start part-result-end (search needs) returns returns-2)

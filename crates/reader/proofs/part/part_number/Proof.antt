@@ -4,9 +4,6 @@ use borrow.Author.Needs.{needs}
 use Rattle.reader.proofs.part.part_number.Statement.{statement}
 use Rattle.reader.proofs.part.part_number.Tie as tie
 
-lies-in-requires : tie.Need-lies-in-requires
-lies-in-requires c κs = search needs
-
 returns : tie.Need-returns
 unfolding partNumber
 returns c = rw (sym (c .before .lies-in .ensures) ∙ c .if1 .taken)
@@ -16,4 +13,4 @@ unfolding partNumber
 returns-2 c = rw (sym (c .before .lies-in .ensures) ∙ c .if1 .left)
 
 pub part-number-spec : {M : Type 1} → statement M
-part-number-spec = tie.close (tie.spec lies-in-requires returns returns-2)
+part-number-spec = tie.close (tie.spec (search needs) returns returns-2)

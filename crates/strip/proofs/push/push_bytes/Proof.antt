@@ -3,15 +3,9 @@ use borrow.Author.Needs.{needs}
 use Rattle.strip.proofs.push.push_bytes.Statement.{statement}
 use Rattle.strip.proofs.push.push_bytes.Tie as tie
 
-put-head-requires : tie.Need-put-head-requires
-put-head-requires c κs = search needs
-
-same-length : tie.Need-same-length
-same-length c = search needs
-
 returns : tie.Need-returns
 unfolding code
 returns c = c .before .before .put-head .ensures
 
 pub push-bytes-spec : {M : Type 1} → statement M
-push-bytes-spec = tie.close (tie.spec put-head-requires same-length returns)
+push-bytes-spec = tie.close (tie.spec (search needs) (search needs) returns)

@@ -4,18 +4,6 @@ use borrow.Author.Needs.{needs}
 use Rattle.strip.proofs.push.push_ipv6.Statement.{statement}
 use Rattle.strip.proofs.push.push_ipv6.Tie as tie
 
-put-head-at-requires : tie.Need-put-head-at-requires
-put-head-at-requires c κs = search needs
-
-put-u64-requires : tie.Need-put-u64-requires
-put-u64-requires c κs = search needs
-
-put-u64-requires-2 : tie.Need-put-u64-requires-2
-put-u64-requires-2 c κs = search needs
-
-same-length : tie.Need-same-length
-same-length c = search needs
-
 returns : tie.Need-returns
 unfolding code
 returns c =
@@ -25,5 +13,4 @@ returns c =
     then (then (k1 .put-head-at .ensures) (k2 .put-u64 .ensures)) (k3 .put-u642 .ensures)
 
 pub push-ipv6-spec : {M : Type 1} → statement M
-push-ipv6-spec =
-    tie.close (tie.spec put-head-at-requires put-u64-requires put-u64-requires-2 same-length returns)
+push-ipv6-spec = tie.close (tie.spec (search needs) (search needs) (search needs) (search needs) returns)

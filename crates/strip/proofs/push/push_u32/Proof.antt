@@ -4,15 +4,6 @@ use borrow.Author.Needs.{needs}
 use Rattle.strip.proofs.push.push_u32.Statement.{statement}
 use Rattle.strip.proofs.push.push_u32.Tie as tie
 
-put-head-at-requires : tie.Need-put-head-at-requires
-put-head-at-requires c κs = search needs
-
-put-u32-requires : tie.Need-put-u32-requires
-put-u32-requires c κs = search needs
-
-same-length : tie.Need-same-length
-same-length c = search needs
-
 returns : tie.Need-returns
 unfolding code
 returns c =
@@ -21,4 +12,4 @@ returns c =
     then (k1 .put-head-at .ensures) (k2 .put-u32 .ensures)
 
 pub push-u32-spec : {M : Type 1} → statement M
-push-u32-spec = tie.close (tie.spec put-head-at-requires put-u32-requires same-length returns)
+push-u32-spec = tie.close (tie.spec (search needs) (search needs) (search needs) returns)

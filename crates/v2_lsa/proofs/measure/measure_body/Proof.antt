@@ -4,21 +4,6 @@ use Rattle.v2_lsa.proofs.Types.{is-router, is-network, is-summary, is-e
 use Rattle.v2_lsa.proofs.measure.measure_body.Statement.{statement}
 use Rattle.v2_lsa.proofs.measure.measure_body.Tie as tie
 
-measure-router-lsa-requires : tie.Need-measure-router-lsa-requires
-measure-router-lsa-requires c κs = search needs
-
-measure-network-lsa-requires : tie.Need-measure-network-lsa-requires
-measure-network-lsa-requires c κs = search needs
-
-measure-external-lsa-requires : tie.Need-measure-external-lsa-requires
-measure-external-lsa-requires c κs = search needs
-
-measure-summary-lsa-requires : tie.Need-measure-summary-lsa-requires
-measure-summary-lsa-requires c κs = search needs
-
-measure-opaque-lsa-requires : tie.Need-measure-opaque-lsa-requires
-measure-opaque-lsa-requires c κs = search needs
-
 returns : tie.Need-returns
 returns c = λ o. rw (is-router _ _ _ o (c .before .match .keys1)) (c .measure-router-lsa .ensures o)
 
@@ -49,19 +34,6 @@ returns-8 : tie.Need-returns-8
 returns-8 c = λ o. rw (is-raw _ _ _ o (c .before .before .before .before .match .rest .0 .0 .1) (c .before .before .before .before .match .rest .0 .1) (c .before .before .before .before .match .rest .1) (λ h l. omega arith) (λ h l. omega arith))
 
 pub measure-body-spec : {M : Type 1} → statement M
-measure-body-spec =
-    tie.close
-    (tie.spec
-    measure-router-lsa-requires
-    measure-network-lsa-requires
-    measure-external-lsa-requires
-    measure-summary-lsa-requires
-    measure-opaque-lsa-requires
-    returns
-    returns-2
-    returns-3
-    returns-4
-    returns-5
-    returns-6
-    returns-7
-    returns-8)
+measure-body-spec = tie.close (tie.spec
+    (search needs) (search needs) (search needs) (search needs) (search needs) returns returns-2 returns-3 returns-4
+    returns-5 returns-6 returns-7 returns-8)

@@ -11,33 +11,6 @@ use borrow.Author.Needs.{needs}
 use Rattle.v2_lsa.proofs.measure.measure_lsa.Statement.{statement}
 use Rattle.v2_lsa.proofs.measure.measure_lsa.Tie as tie
 
-measure-lsa-header-fields-requires : tie.Need-measure-lsa-header-fields-requires
-measure-lsa-header-fields-requires c κs = search needs
-
-sub-body : tie.Need-sub-body
-sub-body c = search needs
-
-part-body-start : tie.Need-part-body-start
-part-body-start c = search needs
-
-part-body-end : tie.Need-part-body-end
-part-body-end c = search needs
-
-shared-slice-read-measure-body : tie.Need-shared-slice-read-measure-body
-shared-slice-read-measure-body c = search needs
-
-shared-slice-read-measure-body-2 : tie.Need-shared-slice-read-measure-body-2
-shared-slice-read-measure-body-2 c = search needs
-
-measure-body-requires : tie.Need-measure-body-requires
-measure-body-requires c κs = search needs
-
-enum-known-measured : tie.Need-enum-known-measured
-enum-known-measured c = search needs
-
-measure-unparsed-requires : tie.Need-measure-unparsed-requires
-measure-unparsed-requires c κs = search needs
-
 -- The lengths that are added are those of the LSA's parts.
 parsed : (c : tie.After-measure-unparsed) (o : ℕ)
     → c .before .before .before .before .before .before .before .before .measure-lsa-header-fields .result + c .before .before .measured .given .0 .0 + c .measure-unparsed .result
@@ -76,14 +49,8 @@ add-t18 c =
     let l = lsa-bound2 (c .before .before .before .before .before .before .before .before .before .before .args .lsa .now) 0 (c .before .before .before .before .before .before .before .before .before .before .pre .0) in
     omega arith
 
-bytes-from-requires : tie.Need-bytes-from-requires
-bytes-from-requires c κs = search needs
-
 enum-told : tie.Need-enum-told
 enum-told c = search needs
-
-measure-unparsed-requires-2 : tie.Need-measure-unparsed-requires-2
-measure-unparsed-requires-2 c κs = search needs
 
 add-t20 : tie.Need-add-t20
 add-t20 c =
@@ -110,23 +77,6 @@ returns-2 c =
     (unparsed c, sym t)
 
 pub measure-lsa-spec : {M : Type 1} → statement M
-measure-lsa-spec =
-    tie.close
-    (tie.spec
-    measure-lsa-header-fields-requires
-    sub-body
-    part-body-start
-    part-body-end
-    shared-slice-read-measure-body
-    shared-slice-read-measure-body-2
-    measure-body-requires
-    enum-known-measured
-    measure-unparsed-requires
-    add-t17
-    add-t18
-    bytes-from-requires
-    enum-told
-    measure-unparsed-requires-2
-    add-t20
-    returns
-    returns-2)
+measure-lsa-spec = tie.close (tie.spec
+    (search needs) (search needs) (search needs) (search needs) (search needs) (search needs) (search needs)
+    (search needs) (search needs) add-t17 add-t18 (search needs) enum-told (search needs) add-t20 returns returns-2)

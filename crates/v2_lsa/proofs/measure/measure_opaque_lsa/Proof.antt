@@ -5,9 +5,6 @@ use borrow.Author.Needs.{needs}
 use Rattle.v2_lsa.proofs.measure.measure_opaque_lsa.Statement.{statement}
 use Rattle.v2_lsa.proofs.measure.measure_opaque_lsa.Tie as tie
 
-opaque-has-tlvs-requires : tie.Need-opaque-has-tlvs-requires
-opaque-has-tlvs-requires c κs = search needs
-
 returns : tie.Need-returns
 unfolding opaqueLsa encode code
 returns c = λ o. rw (sym (c .before .opaque-has-tlvs .ensures) ∙ c .if1 .taken)
@@ -17,4 +14,4 @@ unfolding opaqueLsa encode code
 returns-2 c = λ o. rw (sym (c .before .opaque-has-tlvs .ensures) ∙ c .if1 .left)
 
 pub measure-opaque-lsa-spec : {M : Type 1} → statement M
-measure-opaque-lsa-spec = tie.close (tie.spec opaque-has-tlvs-requires returns returns-2)
+measure-opaque-lsa-spec = tie.close (tie.spec (search needs) returns returns-2)

@@ -25,12 +25,6 @@ abbrev μ-loop : tie.MeasureT-loop
 loop-holds : tie.Need-loop-holds Inv-loop μ-loop
 loop-holds c = (λ o. measure-begin linkRule _ _ _ 4, search needs)
 
-link-fits-requires : tie.Need-link-fits-requires Inv-loop μ-loop
-link-fits-requires c κs = search needs
-
-enum-known-n : tie.Need-enum-known-n Inv-loop μ-loop
-enum-known-n c = search needs
-
 enum-told : tie.Need-enum-told Inv-loop μ-loop
 enum-told c = search needs
 
@@ -55,12 +49,6 @@ add-pos : tie.Need-add-pos Inv-loop μ-loop
 add-pos c =
     let h = link-inside _ _ _ (fits (c .before)) in
     omega arith
-
-sub-left : tie.Need-sub-left Inv-loop μ-loop
-sub-left c = search needs
-
-loop-less : tie.Need-loop-less Inv-loop μ-loop
-loop-less c = search needs
 
 loop-again : tie.Need-loop-again Inv-loop μ-loop
 loop-again c =
@@ -93,20 +81,6 @@ returns-2 c =
     (t .0, (t .1, t .2))
 
 pub measure-links-spec : {M : Type 1} → statement M
-measure-links-spec =
-    tie.close
-    (tie.spec
-    Inv-loop
-    μ-loop
-    loop-holds
-    link-fits-requires
-    enum-known-n
-    enum-told
-    measure-link-requires
-    add-total
-    add-pos
-    sub-left
-    loop-less
-    loop-again
-    returns
-    returns-2)
+measure-links-spec = tie.close (tie.spec
+    Inv-loop μ-loop loop-holds (search needs) (search needs) enum-told measure-link-requires add-total add-pos
+    (search needs) (search needs) loop-again returns returns-2)

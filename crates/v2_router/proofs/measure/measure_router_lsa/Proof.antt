@@ -14,24 +14,6 @@ returns : tie.Need-returns
 unfolding routerLsa2
 returns c = λ o. rw (lt-ltb (length (c .before .before .args .body .now)) 4 (omega arith))
 
-read-be-u16-requires : tie.Need-read-be-u16-requires
-read-be-u16-requires c κs = search needs
-
-measure-links-requires : tie.Need-measure-links-requires
-measure-links-requires c κs = search needs
-
-mul-t4 : tie.Need-mul-t4
-mul-t4 c = search needs
-
-add-t6 : tie.Need-add-t6
-add-t6 c = search needs
-
-add-t7 : tie.Need-add-t7
-add-t7 c = search needs
-
-add-t8 : tie.Need-add-t8
-add-t8 c = search needs
-
 returns-2 : tie.Need-returns-2
 unfolding routerLsa2 spread encode code
 returns-2 c =
@@ -40,14 +22,5 @@ returns-2 c =
     λ o. rw (le-ltb (length b) 4 (omega arith)) (same-decoded (let e = rw count at (c .before .measure-links .ensures .0 o) in let l = length-listing 16 (link b o) o 4 (links b) in omega arith) (rw count at (c .before .measure-links .ensures .1 .0)))
 
 pub measure-router-lsa-spec : {M : Type 1} → statement M
-measure-router-lsa-spec =
-    tie.close
-    (tie.spec
-    returns
-    read-be-u16-requires
-    measure-links-requires
-    mul-t4
-    add-t6
-    add-t7
-    add-t8
-    returns-2)
+measure-router-lsa-spec = tie.close (tie.spec
+    returns (search needs) (search needs) (search needs) (search needs) (search needs) (search needs) returns-2)

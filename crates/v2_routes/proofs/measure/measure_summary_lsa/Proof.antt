@@ -15,30 +15,6 @@ returns : tie.Need-returns
 unfolding summaryLsa
 returns c = λ o. rw (lt-ltb (length (c .before .before .args .body .now)) 8 (omega arith))
 
-sub-count : tie.Need-sub-count
-sub-count c = search needs
-
-add-measure-tos-metrics : tie.Need-add-measure-tos-metrics
-add-measure-tos-metrics c = search needs
-
-add-measure-tos-metrics-2 : tie.Need-add-measure-tos-metrics-2
-add-measure-tos-metrics-2 c = search needs
-
-measure-tos-metrics-requires : tie.Need-measure-tos-metrics-requires
-measure-tos-metrics-requires c κs = search needs
-
-add-t4 : tie.Need-add-t4
-add-t4 c = search needs
-
-add-t6 : tie.Need-add-t6
-add-t6 c = search needs
-
-mul-t7 : tie.Need-mul-t7
-mul-t7 c = search needs
-
-add-t8 : tie.Need-add-t8
-add-t8 c = search needs
-
 returns-2 : tie.Need-returns-2
 unfolding summaryLsa summaryTos container encode code
 returns-2 c =
@@ -46,16 +22,6 @@ returns-2 c =
     λ o. rw (le-ltb (length b) 8 (omega arith)) (same-decoded (let e = c .measure-tos-metrics .ensures .0 20 (summaryTos b o) o 8 (whole 4 b 8) (λ s. refl) (whole-count 4 b 8 (omega arith)) in omega arith) (sym (whole-after 4 b 8 (omega arith))))
 
 pub measure-summary-lsa-spec : {M : Type 1} → statement M
-measure-summary-lsa-spec =
-    tie.close
-    (tie.spec
-    returns
-    sub-count
-    add-measure-tos-metrics
-    add-measure-tos-metrics-2
-    measure-tos-metrics-requires
-    add-t4
-    add-t6
-    mul-t7
-    add-t8
-    returns-2)
+measure-summary-lsa-spec = tie.close (tie.spec
+    returns (search needs) (search needs) (search needs) (search needs) (search needs) (search needs) (search needs)
+    (search needs) returns-2)

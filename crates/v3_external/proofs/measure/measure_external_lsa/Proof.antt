@@ -14,12 +14,6 @@ use Rattle.format.proofs.Lengths.{at-most, length-optional}
 use Rattle.v3_external.proofs.measure.measure_external_lsa.Statement.{statement}
 use Rattle.v3_external.proofs.measure.measure_external_lsa.Tie as tie
 
-fixed-prefix-fits-requires : tie.Need-fixed-prefix-fits-requires
-fixed-prefix-fits-requires c κs = search needs
-
-enum-known-n : tie.Need-enum-known-n
-enum-known-n c = search needs
-
 enum-told : tie.Need-enum-told
 enum-told c = search needs
 
@@ -40,9 +34,6 @@ external-end-requires c κs =
 returns-2 : tie.Need-returns-2
 returns-2 c = λ o. rw (external-short (c .before .before .before .before .before .before .before .args .body .now) o _ (fits (c .before .before)) (omega arith))
 
-measure-external-optional-requires : tie.Need-measure-external-optional-requires
-measure-external-optional-requires c κs = search needs
-
 add-t7 : tie.Need-add-t7
 add-t7 c =
     let b = c .before .before .before .before .before .before .before .before .args .body .now in
@@ -60,15 +51,5 @@ returns-3 c = λ o.
     rw (external-decoded (c .before .before .before .before .before .before .before .before .args .body .now) o _ (fits (c .before .before .before)) (omega arith)) (same-decoded (omega arith) (c .before .before .external-end .ensures))
 
 pub measure-external-lsa-spec : {M : Type 1} → statement M
-measure-external-lsa-spec =
-    tie.close
-    (tie.spec
-    fixed-prefix-fits-requires
-    enum-known-n
-    enum-told
-    returns
-    external-end-requires
-    returns-2
-    measure-external-optional-requires
-    add-t7
-    returns-3)
+measure-external-lsa-spec = tie.close (tie.spec
+    (search needs) (search needs) enum-told returns external-end-requires returns-2 (search needs) add-t7 returns-3)

@@ -4,24 +4,6 @@ use Rattle.format.proofs.Lengths.{at-most, length-optional}
 use Rattle.v3_external.proofs.measure.measure_external_optional.Statement.{statement}
 use Rattle.v3_external.proofs.measure.measure_external_optional.Tie as tie
 
-has-forwarding-requires : tie.Need-has-forwarding-requires
-has-forwarding-requires c κs = search needs
-
-present-requires : tie.Need-present-requires
-present-requires c κs = search needs
-
-has-tag-requires : tie.Need-has-tag-requires
-has-tag-requires c κs = search needs
-
-present-requires-2 : tie.Need-present-requires-2
-present-requires-2 c κs = search needs
-
-has-reference-requires : tie.Need-has-reference-requires
-has-reference-requires c κs = search needs
-
-present-requires-3 : tie.Need-present-requires-3
-present-requires-3 c κs = search needs
-
 add-result : tie.Need-add-result
 add-result c =
     let h1 = at-most (c .before .before .before .before .before .has-forwarding .result) 26 in
@@ -45,15 +27,6 @@ returns c = λ o n.
     omega arith
 
 pub measure-external-optional-spec : {M : Type 1} → statement M
-measure-external-optional-spec =
-    tie.close
-    (tie.spec
-    has-forwarding-requires
-    present-requires
-    has-tag-requires
-    present-requires-2
-    has-reference-requires
-    present-requires-3
-    add-result
-    add-result-2
+measure-external-optional-spec = tie.close (tie.spec
+    (search needs) (search needs) (search needs) (search needs) (search needs) (search needs) add-result add-result-2
     returns)

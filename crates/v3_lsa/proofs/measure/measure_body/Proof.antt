@@ -11,48 +11,6 @@ use Rattle.v3_lsa.proofs.Functions.{router-body, network-body, inter-ar
 use Rattle.v3_lsa.proofs.measure.measure_body.Statement.{statement}
 use Rattle.v3_lsa.proofs.measure.measure_body.Tie as tie
 
-measure-router-lsa-requires : tie.Need-measure-router-lsa-requires
-measure-router-lsa-requires c κs = search needs
-
-measure-network-lsa-requires : tie.Need-measure-network-lsa-requires
-measure-network-lsa-requires c κs = search needs
-
-measure-inter-area-prefix-lsa-requires : tie.Need-measure-inter-area-prefix-lsa-requires
-measure-inter-area-prefix-lsa-requires c κs = search needs
-
-measure-inter-area-router-lsa-requires : tie.Need-measure-inter-area-router-lsa-requires
-measure-inter-area-router-lsa-requires c κs = search needs
-
-measure-external-lsa-requires : tie.Need-measure-external-lsa-requires
-measure-external-lsa-requires c κs = search needs
-
-measure-link-lsa-requires : tie.Need-measure-link-lsa-requires
-measure-link-lsa-requires c κs = search needs
-
-measure-intra-area-prefix-lsa-requires : tie.Need-measure-intra-area-prefix-lsa-requires
-measure-intra-area-prefix-lsa-requires c κs = search needs
-
-add-measure-tlv-lsa : tie.Need-add-measure-tlv-lsa
-add-measure-tlv-lsa c = search needs
-
-measure-tlv-lsa-requires : tie.Need-measure-tlv-lsa-requires
-measure-tlv-lsa-requires c κs = search needs
-
-measure-tlv-lsa-requires-2 : tie.Need-measure-tlv-lsa-requires-2
-measure-tlv-lsa-requires-2 c κs = search needs
-
-add-measure-tlv-lsa-2 : tie.Need-add-measure-tlv-lsa-2
-add-measure-tlv-lsa-2 c = search needs
-
-measure-tlv-lsa-requires-3 : tie.Need-measure-tlv-lsa-requires-3
-measure-tlv-lsa-requires-3 c κs = search needs
-
-measure-tlv-lsa-requires-4 : tie.Need-measure-tlv-lsa-requires-4
-measure-tlv-lsa-requires-4 c κs = search needs
-
-measure-tlv-lsa-requires-5 : tie.Need-measure-tlv-lsa-requires-5
-measure-tlv-lsa-requires-5 c κs = search needs
-
 unknown : (c : tie.At-match-rest) → (35 ≤ c .before .before .args .function → c .before .before .args .function < 38 → ⊥) → (o : ℕ) → body3 (c .before .before .args .function) (c .before .before .args .body .now) o ≡ raw
 unknown c h o = let k = c .match .rest in no-body _ _ o (k .0 .0 .0 .0 .0 .0 .0 .0 .0 .0 .0 .1) (k .0 .0 .0 .0 .0 .0 .0 .0 .0 .0 .1) (k .0 .0 .0 .0 .0 .0 .0 .0 .0 .1) (k .0 .0 .0 .0 .0 .0 .0 .0 .1) (k .0 .0 .0 .0 .0 .0 .0 .1) (k .0 .0 .0 .0 .0 .0 .1) (k .0 .0 .0 .0 .0 .1) (k .0 .0 .0 .0 .1) (k .0 .0 .0 .1) (k .0 .0 .1) (k .0 .1) (k .1) h
 
@@ -119,34 +77,8 @@ unfolding encode code
 returns-14 c = λ o. rw (alone (c .before) o) (c .measure-tlv-lsa5 .ensures o [] refl)
 
 pub measure-body-spec : {M : Type 1} → statement M
-measure-body-spec =
-    tie.close
-    (tie.spec
-    measure-router-lsa-requires
-    measure-network-lsa-requires
-    measure-inter-area-prefix-lsa-requires
-    measure-inter-area-router-lsa-requires
-    measure-external-lsa-requires
-    measure-link-lsa-requires
-    measure-intra-area-prefix-lsa-requires
-    add-measure-tlv-lsa
-    measure-tlv-lsa-requires
-    measure-tlv-lsa-requires-2
-    add-measure-tlv-lsa-2
-    measure-tlv-lsa-requires-3
-    measure-tlv-lsa-requires-4
-    measure-tlv-lsa-requires-5
-    returns
-    returns-2
-    returns-3
-    returns-4
-    returns-5
-    returns-6
-    returns-7
-    returns-8
-    returns-9
-    returns-10
-    returns-11
-    returns-12
-    returns-13
-    returns-14)
+measure-body-spec = tie.close (tie.spec
+    (search needs) (search needs) (search needs) (search needs) (search needs) (search needs) (search needs)
+    (search needs) (search needs) (search needs) (search needs) (search needs) (search needs) (search needs) returns
+    returns-2 returns-3 returns-4 returns-5 returns-6 returns-7 returns-8 returns-9 returns-10 returns-11 returns-12
+    returns-13 returns-14)

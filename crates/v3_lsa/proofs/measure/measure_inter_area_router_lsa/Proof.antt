@@ -11,15 +11,9 @@ returns : tie.Need-returns
 unfolding interAreaRouterLsa
 returns c = λ o. rw (lt-ltb (length (c .before .args .body .now)) 12 (omega arith))
 
-add-t2 : tie.Need-add-t2
-add-t2 c = search needs
-
-add-t4 : tie.Need-add-t4
-add-t4 c = search needs
-
 returns-2 : tie.Need-returns-2
 unfolding interAreaRouterLsa encode code
 returns-2 c = λ o. rw (le-ltb (length (c .before .args .body .now)) 12 (omega arith))
 
 pub measure-inter-area-router-lsa-spec : {M : Type 1} → statement M
-measure-inter-area-router-lsa-spec = tie.close (tie.spec returns add-t2 add-t4 returns-2)
+measure-inter-area-router-lsa-spec = tie.close (tie.spec returns (search needs) (search needs) returns-2)

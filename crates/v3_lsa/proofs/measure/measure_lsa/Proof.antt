@@ -12,30 +12,6 @@ use Rattle.body.specs.Answers.{measuredOf}
 use Rattle.v3_lsa.proofs.measure.measure_lsa.Statement.{statement}
 use Rattle.v3_lsa.proofs.measure.measure_lsa.Tie as tie
 
-measure-lsa-header-fields-requires : tie.Need-measure-lsa-header-fields-requires
-measure-lsa-header-fields-requires c κs = search needs
-
-function-code-requires : tie.Need-function-code-requires
-function-code-requires c κs = search needs
-
-sub-body : tie.Need-sub-body
-sub-body c = search needs
-
-part-body-start : tie.Need-part-body-start
-part-body-start c = search needs
-
-part-body-end : tie.Need-part-body-end
-part-body-end c = search needs
-
-measure-body-requires : tie.Need-measure-body-requires
-measure-body-requires c κs = search needs
-
-enum-known-at : tie.Need-enum-known-at
-enum-known-at c = search needs
-
-measure-unparsed-requires : tie.Need-measure-unparsed-requires
-measure-unparsed-requires c κs = search needs
-
 -- the body's answer, of the definition
 answer : (c : tie.After-measure-body) (o : ℕ) → c .measure-body .result ≡ measuredOf (bodyOf3 (c .before .before .before .before .before .args .lsa .now) o)
 answer c o = rw (c .before .before .function-code .ensures, to-the-end (c .before .before .before .before .before .args .lsa .now) 20) at (c .measure-body .ensures (o + headerSize))
@@ -66,14 +42,8 @@ add-t13 c = let s = c .before .before .before .before .before .before .before .b
 add-t14 : tie.Need-add-t14
 add-t14 c = let s = c .before .before .before .before .before .before .before .before .before in omega (arith, parsed c 0, lsa-bound3 (s .args .lsa .now) 0 (s .pre .0))
 
-bytes-from-requires : tie.Need-bytes-from-requires
-bytes-from-requires c κs = search needs
-
 enum-told : tie.Need-enum-told
 enum-told c = search needs
-
-measure-unparsed-requires-2 : tie.Need-measure-unparsed-requires-2
-measure-unparsed-requires-2 c κs = search needs
 
 add-t17 : tie.Need-add-t17
 add-t17 c = let s = c .before .before .before .before .before .before .before .before in omega (arith, unparsed c 0, lsa-bound3 (s .args .lsa .now) 0 (s .pre .0))
@@ -93,22 +63,6 @@ returns-2 c =
     (unparsed c, sym t)
 
 pub measure-lsa-spec : {M : Type 1} → statement M
-measure-lsa-spec =
-    tie.close
-    (tie.spec
-    measure-lsa-header-fields-requires
-    function-code-requires
-    sub-body
-    part-body-start
-    part-body-end
-    measure-body-requires
-    enum-known-at
-    measure-unparsed-requires
-    add-t13
-    add-t14
-    bytes-from-requires
-    enum-told
-    measure-unparsed-requires-2
-    add-t17
-    returns
-    returns-2)
+measure-lsa-spec = tie.close (tie.spec
+    (search needs) (search needs) (search needs) (search needs) (search needs) (search needs) (search needs)
+    (search needs) add-t13 add-t14 (search needs) enum-told (search needs) add-t17 returns returns-2)

@@ -15,9 +15,6 @@ returns : tie.Need-returns
 unfolding networkLsa3
 returns c = λ o. rw (lt-ltb (length (c .before .before .args .body .now)) 4 (omega arith))
 
-measure-attached-routers-requires : tie.Need-measure-attached-routers-requires
-measure-attached-routers-requires c κs = search needs
-
 add-t3 : tie.Need-add-t3
 unfolding attachedRouter encode code
 add-t3 c =
@@ -35,5 +32,4 @@ returns-2 c =
     rw (le-ltb (length (c .before .before .before .before .args .body .now)) 4 (omega arith)) (same-decoded (omega arith) (k .1))
 
 pub measure-network-lsa-spec : {M : Type 1} → statement M
-measure-network-lsa-spec =
-    tie.close (tie.spec returns measure-attached-routers-requires add-t3 returns-2)
+measure-network-lsa-spec = tie.close (tie.spec returns (search needs) add-t3 returns-2)

@@ -14,27 +14,6 @@ returns : tie.Need-returns
 unfolding routerLsa3
 returns c = λ o. rw (lt-ltb (length (c .before .args .body .now)) 4 (omega arith))
 
-sub-count : tie.Need-sub-count
-sub-count c = search needs
-
-add-t3 : tie.Need-add-t3
-add-t3 c = search needs
-
-add-t5 : tie.Need-add-t5
-add-t5 c = search needs
-
-mul-t6 : tie.Need-mul-t6
-mul-t6 c = search needs
-
-add-t7 : tie.Need-add-t7
-add-t7 c = search needs
-
-mul-t8 : tie.Need-mul-t8
-mul-t8 c = search needs
-
-add-t9 : tie.Need-add-t9
-add-t9 c = search needs
-
 returns-2 : tie.Need-returns-2
 unfolding routerLsa3 link container encode code
 returns-2 c =
@@ -44,5 +23,6 @@ returns-2 c =
     rw (le-ltb (length b) 4 (omega arith)) (same-decoded (omega arith) (sym (whole-after 16 b 4 (omega arith))))
 
 pub measure-router-lsa-spec : {M : Type 1} → statement M
-measure-router-lsa-spec =
-    tie.close (tie.spec returns sub-count add-t3 add-t5 mul-t6 add-t7 mul-t8 add-t9 returns-2)
+measure-router-lsa-spec = tie.close (tie.spec
+    returns (search needs) (search needs) (search needs) (search needs) (search needs) (search needs) (search needs)
+    returns-2)

@@ -14,9 +14,6 @@ returns : tie.Need-returns
 unfolding tlvLsa
 returns c = λ o es e. rw (lt-ltb (length (c .before .args .body .now)) (c .before .args .n) (omega arith))
 
-add-t4 : tie.Need-add-t4
-add-t4 c = search needs
-
 returns-2 : tie.Need-returns-2
 unfolding tlvLsa encode code
 returns-2 c =
@@ -27,4 +24,4 @@ returns-2 c =
     rw (le-ltb (length b) n (omega arith)) (same-decoded (omega arith) refl)
 
 pub measure-tlv-lsa-spec : {M : Type 1} → statement M
-measure-tlv-lsa-spec = tie.close (tie.spec returns add-t4 returns-2)
+measure-tlv-lsa-spec = tie.close (tie.spec returns (search needs) returns-2)

@@ -7,9 +7,6 @@ use Rattle.format.proofs.Loop.{spread}
 use Rattle.v3_prefix.proofs.measure.measure_prefixes.Statement.{statement}
 use Rattle.v3_prefix.proofs.measure.measure_prefixes.Tie as tie
 
-measure-prefix-entries-requires : tie.Need-measure-prefix-entries-requires
-measure-prefix-entries-requires c κs = search needs
-
 returns : tie.Need-returns
 unfolding spread
 returns c =
@@ -24,4 +21,4 @@ returns c =
     )
 
 pub measure-prefixes-spec : {M : Type 1} → statement M
-measure-prefixes-spec = tie.close (tie.spec measure-prefix-entries-requires returns)
+measure-prefixes-spec = tie.close (tie.spec (search needs) returns)

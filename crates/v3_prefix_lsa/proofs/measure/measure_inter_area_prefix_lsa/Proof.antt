@@ -11,12 +11,6 @@ use Rattle.v3_prefix.proofs.Fits.{some-of, none-of}
 use Rattle.v3_prefix_lsa.proofs.measure.measure_inter_area_prefix_lsa.Statement.{statement}
 use Rattle.v3_prefix_lsa.proofs.measure.measure_inter_area_prefix_lsa.Tie as tie
 
-fixed-prefix-fits-requires : tie.Need-fixed-prefix-fits-requires
-fixed-prefix-fits-requires c κs = search needs
-
-enum-known-n : tie.Need-enum-known-n
-enum-known-n c = search needs
-
 enum-told : tie.Need-enum-told
 enum-told c = search needs
 
@@ -24,9 +18,6 @@ returns : tie.Need-returns
 returns c =
     let b = c .before .before .before .before .args .body .now in
     λ o. rw (inter-area-prefix-raw b o (none-of (fixedPrefixFits b) (c .before .before .fixed-prefix-fits .result) (c .before .before .fixed-prefix-fits .ensures) (c .enum-told .given .1)))
-
-add-t4 : tie.Need-add-t4
-add-t4 c = search needs
 
 fits : (c : tie.After-known-told) → fixedPrefixFits (c .before .before .before .before .before .args .body .now) ≡ some (c .before .n .given .0 .0)
 fits c = let k = c .before .before .before in some-of _ _ (k .fixed-prefix-fits .result) (k .fixed-prefix-fits .ensures) (c .before .n .given .1)
@@ -42,6 +33,4 @@ unfolding encode code
 returns-2 c = λ o. rw (inter-area-prefix-decoded (c .before .before .before .before .before .args .body .now) o _ (fits c))
 
 pub measure-inter-area-prefix-lsa-spec : {M : Type 1} → statement M
-measure-inter-area-prefix-lsa-spec =
-    tie.close
-    (tie.spec fixed-prefix-fits-requires enum-known-n enum-told returns add-t4 add-t5 returns-2)
+measure-inter-area-prefix-lsa-spec = tie.close (tie.spec (search needs) (search needs) enum-told returns (search needs) add-t5 returns-2)

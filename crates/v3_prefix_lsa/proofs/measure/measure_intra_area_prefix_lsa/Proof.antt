@@ -16,18 +16,6 @@ returns : tie.Need-returns
 unfolding intraAreaPrefixLsa
 returns c = λ o. rw (lt-ltb (length (c .before .before .args .body .now)) 12 (omega arith))
 
-read-be-u16-requires : tie.Need-read-be-u16-requires
-read-be-u16-requires c κs = search needs
-
-cast-measure-prefixes : tie.Need-cast-measure-prefixes
-cast-measure-prefixes c = search needs
-
-measure-prefixes-requires : tie.Need-measure-prefixes-requires
-measure-prefixes-requires c κs = search needs
-
-add-t3 : tie.Need-add-t3
-add-t3 c = search needs
-
 add-t7 : tie.Need-add-t7
 add-t7 c =
     let b = c .before .before .before .before .before .args .body .now in
@@ -46,13 +34,4 @@ returns-2 c =
     rw (le-ltb (length (c .before .before .before .before .before .args .body .now)) 12 (omega arith)) (same-decoded (omega arith) (rw (c .before .before .read-be-u16 .ensures) at (k .1)))
 
 pub measure-intra-area-prefix-lsa-spec : {M : Type 1} → statement M
-measure-intra-area-prefix-lsa-spec =
-    tie.close
-    (tie.spec
-    returns
-    read-be-u16-requires
-    cast-measure-prefixes
-    measure-prefixes-requires
-    add-t3
-    add-t7
-    returns-2)
+measure-intra-area-prefix-lsa-spec = tie.close (tie.spec returns (search needs) (search needs) (search needs) (search needs) add-t7 returns-2)

@@ -16,21 +16,6 @@ returns : tie.Need-returns
 unfolding linkLsa
 returns c = λ o. rw (lt-ltb (length (c .before .before .args .body .now)) 24 (omega arith))
 
-read-be-u32-requires : tie.Need-read-be-u32-requires
-read-be-u32-requires c κs = search needs
-
-measure-prefixes-requires : tie.Need-measure-prefixes-requires
-measure-prefixes-requires c κs = search needs
-
-add-t3 : tie.Need-add-t3
-add-t3 c = search needs
-
-add-t6 : tie.Need-add-t6
-add-t6 c = search needs
-
-add-t7 : tie.Need-add-t7
-add-t7 c = search needs
-
 add-t8 : tie.Need-add-t8
 add-t8 c =
     let b = c .before .before .before .before .before .args .body .now in
@@ -49,14 +34,4 @@ returns-2 c =
     rw (le-ltb (length (c .before .before .before .before .before .args .body .now)) 24 (omega arith)) (same-decoded (omega arith) (rw (c .before .before .read-be-u32 .ensures) at (k .1)))
 
 pub measure-link-lsa-spec : {M : Type 1} → statement M
-measure-link-lsa-spec =
-    tie.close
-    (tie.spec
-    returns
-    read-be-u32-requires
-    measure-prefixes-requires
-    add-t3
-    add-t6
-    add-t7
-    add-t8
-    returns-2)
+measure-link-lsa-spec = tie.close (tie.spec returns (search needs) (search needs) (search needs) (search needs) (search needs) add-t8 returns-2)
