@@ -8,10 +8,10 @@ ghost use Rattle.format.specs.Strip.{encode};
 ghost use Rattle.format.specs.Wrote.{Wrote};
 ghost use Rattle.format.specs.Cut.{cut, after, fixedRule};
 ghost use Rattle.format.specs.Body.{leftover, listing, whole, attachedRouter};
-use strip::push::begin_container;
-use strip::push::end_container;
-use strip::push::push_bytes;
-use strip::push::push_ipv4_at;
+use strip_push::begin_container;
+use strip_push::end_container;
+use strip_push::push_bytes;
+use strip_push::push_ipv4_at;
 
 // A router's id in an array of attached routers.
 const ATTACHED_ROUTER: u8 = 98;

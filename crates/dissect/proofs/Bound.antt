@@ -13,7 +13,7 @@ use Rattle.format.specs.Walks.{Outcome, answerOf}
 use Rattle.format.specs.Walks.Outcome.{refused, accepted}
 use Rattle.format.specs.Print.{programOf, line, shownOf, printed}
 use Rattle.format.proofs.Read.{longer}
-use Rattle.print.proofs.Room.{line-fits, first-fits}
+use Rattle.print_lines.proofs.Room.{line-fits, first-fits}
 
 lines-bound : (es : List Entry) → length (flatMap line es) ≤ 160 * length es
 unfolding flatMap

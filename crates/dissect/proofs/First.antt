@@ -12,9 +12,9 @@ use Rattle.format.specs.Walks.{answerOf, stripOf}
 use Rattle.format.specs.Print.{programOf, lineRoom, firstLine, printed}
 use Rattle.format.specs.Pieces.{shownPart, Left}
 use Rattle.format.proofs.Pieces.{begin}
-use Rattle.answer.specs.declared.Answer.{Answer}
-use Rattle.answer.specs.Answers.{answered, answerMeaning}
-use Rattle.print.specs.Text.{fitting}
+use Rattle.walk_answer.specs.declared.Answer.{Answer}
+use Rattle.walk_answer.specs.Answers.{answered, answerMeaning}
+use Rattle.print_lines.specs.Text.{fitting}
 use Rattle.dissect.proofs.Turn.{front}
 
 module _ (input before : List ℕ) (a : Answer) (size : length before ≡ 65536) (run : a ≡ answered (answerOf (programOf input) (length before)))

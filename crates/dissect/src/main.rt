@@ -6,12 +6,12 @@ ghost use lib.ListN.{length};
 ghost use Rattle.format.specs.Bytes.{part};
 ghost use Rattle.format.specs.Print.{printed};
 ghost use Rattle.format.specs.Pieces.{Left};
-use listing::put_lines;
-use listing::shown_part;
-use print::LINE;
-use print::answer_line;
-use program::MAX_INPUT;
-use program::run;
+use dissect_input::MAX_INPUT;
+use dissect_input::run;
+use print_lines::LINE;
+use print_lines::answer_line;
+use print_listing::put_lines;
+use print_listing::shown_part;
 
 fn main() {
     // One byte more than the most input, so that more is seen.

@@ -7,14 +7,14 @@ ghost use Rattle.format.specs.Header.{headerSize, maxAge, instanceEntries, head
 ghost use Rattle.format.specs.Strip.{encode};
 ghost use Rattle.format.specs.Wrote.{Wrote};
 ghost use Rattle.header.specs.Answers.{headerOf, readingOf, newnessOf, meaning};
-use answer::NO_VERSION;
-use answer::TOO_LITTLE;
-use answer::is_known;
-use strip::push::push_u16_at;
-use strip::push::push_u32_at;
+use strip_push::push_u16_at;
+use strip_push::push_u32_at;
 use util::read_be_u16;
 use util::read_be_u32;
 use util::read_ipv4_addr;
+use walk_answer::NO_VERSION;
+use walk_answer::TOO_LITTLE;
+use walk_answer::is_known;
 
 pub mod v2;
 pub mod v3;

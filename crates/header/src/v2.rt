@@ -7,10 +7,10 @@ ghost use Rattle.format.specs.Strip.{encode};
 ghost use Rattle.format.specs.Wrote.{Wrote};
 use crate::LsaHeader;
 use crate::push_instance_fields;
-use strip::push::push_ipv4_at;
-use strip::push::push_u8_at;
-use strip::push::push_u16_at;
-use strip::push::push_u24_at;
+use strip_push::push_ipv4_at;
+use strip_push::push_u8_at;
+use strip_push::push_u16_at;
+use strip_push::push_u24_at;
 
 // Field ids. Those of the LS checksum and the length follow that of the LS sequence number.
 const LS_AGE: u8 = 0;

@@ -2,9 +2,9 @@
 use header::LsaHeader;
 use header::Newness;
 use header::newer;
-use text::line;
-use text::number;
-use text::word;
+use replay_text::line;
+use replay_text::number;
+use replay_text::word;
 
 pub fn run() {
     sequences();

@@ -1,12 +1,12 @@
 // Octets of every prefix length, and comparisons.
-use text::line;
-use text::number;
-use text::word;
+use replay_text::line;
+use replay_text::number;
+use replay_text::word;
 use tlv::Comparison;
 use tlv::Prefix;
-use tlv::PrefixOctets;
 use tlv::compare_prefixes;
 use tlv::prefix_octets;
+use util::Length;
 
 pub fn run() {
     every_length();
@@ -44,8 +44,8 @@ fn print_octets(length: u8) {
     number(length as u64);
     let octets = prefix_octets(length);
     match octets {
-        PrefixOctets::Octets(n) => number(n as u64),
-        PrefixOctets::TooLong => word(b" none"),
+        Length::Bytes(n) => number(n as u64),
+        Length::Nothing => word(b" none"),
     }
     line();
 }

@@ -1,9 +1,9 @@
 // The readers, at both ends of a slice.
 use header::LsaHeader;
 use header::Reading;
-use text::line;
-use text::number;
-use text::word;
+use replay_text::line;
+use replay_text::number;
+use replay_text::word;
 use util::read_be_u16;
 use util::read_be_u24;
 use util::read_be_u32;

@@ -4,14 +4,14 @@ ghost use mathlib.Core.Path.{_≡_};
 ghost use Prim.Native.Nat.{_<_};
 ghost use lib.ListN.{length};
 ghost use Rattle.format.specs.Walks.{headersOf, updateOf, lsaOf, answerOf, stripOf, packed};
-use common::Answer;
+use walk::Answer;
 
 #[no_mangle]
 pub extern "C" fn ospf_lsa_headers(version: u8, data: &[u8], offset: u64, strip: &mut [u8]) -> u64
     ensures { λ r. ⌜ r ≡ packed (answerOf (headersOf version (now («data» .entry)) offset) (length (now (strip .entry)))) ⌝ }
     ensures { λ r. ⌜ now (strip .exit) ≡ stripOf (headersOf version (now («data» .entry)) offset) (now (strip .entry)) ⌝ }
 {
-    pack(common::push_lsa_headers(version, data, offset, strip))
+    pack(walk::push_lsa_headers(version, data, offset, strip))
 }
 
 #[no_mangle]
@@ -25,7 +25,7 @@ pub extern "C" fn ospf_lsu_lsas(
     ensures { λ r. ⌜ r ≡ packed (answerOf (updateOf version (now («data» .entry)) count offset) (length (now (strip .entry)))) ⌝ }
     ensures { λ r. ⌜ now (strip .exit) ≡ stripOf (updateOf version (now («data» .entry)) count offset) (now (strip .entry)) ⌝ }
 {
-    pack(common::push_lsu_lsas(version, data, count, offset, strip))
+    pack(walk::push_lsu_lsas(version, data, count, offset, strip))
 }
 
 #[no_mangle]
@@ -33,7 +33,7 @@ pub extern "C" fn ospf_lsa(version: u8, data: &[u8], offset: u64, strip: &mut [u
     ensures { λ r. ⌜ r ≡ packed (answerOf (lsaOf version (now («data» .entry)) offset) (length (now (strip .entry)))) ⌝ }
     ensures { λ r. ⌜ now (strip .exit) ≡ stripOf (lsaOf version (now («data» .entry)) offset) (now (strip .entry)) ⌝ }
 {
-    pack(common::push_lsa(version, data, offset, strip))
+    pack(walk::push_lsa(version, data, offset, strip))
 }
 
 // Every walk's length fits in 32 bits, as its contract says.

@@ -6,13 +6,13 @@ use buffers::FILE;
 use buffers::ROOM;
 use buffers::file_buffer;
 use buffers::strip_buffer;
-use tally::count_calls;
-use tally::count_different;
-use tally::first_different;
-use tally::whole_calls;
-use text::line;
-use text::number;
-use text::word;
+use replay_tally::count_calls;
+use replay_tally::count_different;
+use replay_tally::first_different;
+use replay_tally::whole_calls;
+use replay_text::line;
+use replay_text::number;
+use replay_text::word;
 
 fn main() {
     let count = os::arg_count();

@@ -1,3 +1,2 @@
 -- The theorems about the code's answers and its loops.
-pub mod Laws
 pub mod Loops

@@ -1,7 +1,9 @@
 // tlv.rs: address prefixes of version 3 (RFC 5340 A.4.1), and their comparison.
 ghost use mathlib.Core.Path.{_≡_};
 ghost use Rattle.format.specs.Prefix.{octets, address, sameBytes, comparison};
-ghost use Rattle.tlv.specs.Answers.{octetsOf, comparisonOf};
+ghost use Rattle.util.specs.Answers.{lengthOf};
+ghost use Rattle.tlv.specs.Answers.{comparisonOf};
+use util::Length;
 
 // The longest prefix, in bits.
 const MAX_PREFIX_LENGTH: u8 = 128;
@@ -9,18 +11,13 @@ const MAX_PREFIX_LENGTH: u8 = 128;
 // The refusal of a comparison where a length is above that.
 const LENGTH_REFUSED: u8 = 10;
 
-pub enum PrefixOctets {
-    Octets(usize),
-    TooLong,
-}
-
-pub fn prefix_octets(prefix_length: u8) -> PrefixOctets
-    ensures { λ r. ⌜ r ≡ octetsOf (octets «prefix_length») ⌝ }
+pub fn prefix_octets(prefix_length: u8) -> Length
+    ensures { λ r. ⌜ r ≡ lengthOf (octets «prefix_length») ⌝ }
 {
     if prefix_length <= MAX_PREFIX_LENGTH {
-        PrefixOctets::Octets((prefix_length as usize + 31) / 32 * 4)
+        Length::Bytes((prefix_length as usize + 31) / 32 * 4)
     } else {
-        PrefixOctets::TooLong
+        Length::Nothing
     }
 }
 

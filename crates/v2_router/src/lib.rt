@@ -11,18 +11,18 @@ ghost use Rattle.format.specs.Cut.{cut, after, linkRule, fixedRule};
 ghost use Rattle.format.specs.Body.{listing, listingIfAny};
 ghost use Rattle.format.specs.V2.{link, linkFields, linkTos, linkTosSpans, links, routerFlags, routerLsa2};
 ghost use Rattle.body.specs.Answers.{Pushed, bytesOf};
-ghost use Rattle.fit.specs.Answers.{fitOf};
+ghost use Rattle.util.specs.Answers.{lengthOf};
 use body::Body;
 use body::Listed;
-use fit::Fit;
-use strip::push::begin_container;
-use strip::push::begin_container_at;
-use strip::push::end_container;
-use strip::push::push_bit_at;
-use strip::push::push_ipv4_at;
-use strip::push::push_u8_at;
-use strip::push::push_u16_at;
-use strip::push::push_wide16_at;
+use strip_push::begin_container;
+use strip_push::begin_container_at;
+use strip_push::end_container;
+use strip_push::push_bit_at;
+use strip_push::push_ipv4_at;
+use strip_push::push_u8_at;
+use strip_push::push_u16_at;
+use strip_push::push_wide16_at;
+use util::Length;
 use util::read_be_u16;
 
 pub mod measure;
@@ -136,7 +136,7 @@ fn push_links(strip: &mut [u8], at: usize, body: &[u8], o: u32, count: u16) -> L
         if left == 0 {
             break body.len() - rest.len();
         }
-        let Fit::Bytes(n) = link_fits(rest, 0) else {
+        let Length::Bytes(n) = link_fits(rest, 0) else {
             break body.len() - rest.len();
         };
         a = push_link(strip, a, rest, 0, n, start);
@@ -148,18 +148,18 @@ fn push_links(strip: &mut [u8], at: usize, body: &[u8], o: u32, count: u16) -> L
 }
 
 // A link has 12 bytes, and 4 for each TOS metric, all of them within the body.
-fn link_fits(body: &[u8], p: usize) -> Fit
+fn link_fits(body: &[u8], p: usize) -> Length
     requires { ⌜ p ≤ length (now body) ⌝ }
-    ensures { λ r. ⌜ r ≡ fitOf (linkRule (now (body .entry)) p) ⌝ }
+    ensures { λ r. ⌜ r ≡ lengthOf (linkRule (now (body .entry)) p) ⌝ }
 {
     if body.len() - p < LINK_SIZE {
-        return Fit::Nothing;
+        return Length::Nothing;
     }
     let n = LINK_SIZE + body[p + 9] as usize * 4;
     if body.len() - p < n {
-        return Fit::Nothing;
+        return Length::Nothing;
     }
-    Fit::Bytes(n)
+    Length::Bytes(n)
 }
 
 fn push_link(strip: &mut [u8], at: usize, body: &[u8], p: usize, n: usize, o: u32) -> usize

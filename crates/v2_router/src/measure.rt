@@ -12,7 +12,7 @@ ghost use Rattle.body.specs.Answers.{measuredOf};
 use crate::link_fits;
 use body::Body;
 use body::Listed;
-use fit::Fit;
+use util::Length;
 use util::read_be_u16;
 
 // The lengths of entries by kind, and of a container without what is inside.
@@ -55,7 +55,7 @@ fn measure_links(body: &[u8], count: u16) -> Listed
         if left == 0 {
             break pos;
         }
-        let Fit::Bytes(n) = link_fits(body, pos) else {
+        let Length::Bytes(n) = link_fits(body, pos) else {
             break pos;
         };
         total = total + measure_link(body, pos);

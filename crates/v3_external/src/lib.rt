@@ -8,14 +8,14 @@ ghost use Rattle.format.specs.Wrote.{Wrote};
 ghost use Rattle.body.specs.Answers.{bytesOf, Pushed};
 ghost use Rattle.v3_external.specs.Parts.{forwardingAddress, externalRouteTag, referencedLinkStateId};
 use body::Body;
-use strip::push::push_bit_at;
-use strip::push::push_ipv6_at;
-use strip::push::push_metric24_at;
-use strip::push::push_u8_at;
-use strip::push::push_u16_at;
-use strip::push::push_u32_at;
+use strip_push::push_bit_at;
+use strip_push::push_ipv6_at;
+use strip_push::push_metric24_at;
+use strip_push::push_u8_at;
+use strip_push::push_u16_at;
+use strip_push::push_u32_at;
+use util::Length;
 use util::read_be_u16;
-use v3_prefix::Fit;
 use v3_prefix::METRIC;
 use v3_prefix::PREFIX;
 use v3_prefix::PREFIX_LENGTH;
@@ -46,7 +46,7 @@ pub fn push_external_lsa(strip: &mut [u8], at: usize, body: &[u8], o: u32) -> Bo
     requires { ⌜ o + length (now body) < 4294967296 ⌝ }
     ensures { λ r. ⌜ Pushed (externalLsa3 (now (body .entry)) o) (now (strip .entry)) at (now (strip .exit)) r ⌝ }
 {
-    let Fit::Octets(n) = fixed_prefix_fits(body) else {
+    let Length::Bytes(n) = fixed_prefix_fits(body) else {
         return Body::Raw;
     };
     let end = external_end(body, n);

@@ -11,7 +11,7 @@ use crate::has_forwarding;
 use crate::has_reference;
 use crate::has_tag;
 use body::Body;
-use v3_prefix::Fit;
+use util::Length;
 use v3_prefix::fixed_prefix_fits;
 use v3_prefix::present;
 
@@ -28,7 +28,7 @@ pub fn measure_external_lsa(body: &[u8]) -> Body
     requires { ⌜ length (now body) < 65536 ⌝ }
     ensures { λ r. ⌜ ((o : ℕ) → r ≡ measuredOf (externalLsa3 (now (body .entry)) o)) ⌝ }
 {
-    let Fit::Octets(n) = fixed_prefix_fits(body) else {
+    let Length::Bytes(n) = fixed_prefix_fits(body) else {
         return Body::Raw;
     };
     let end = external_end(body, n);

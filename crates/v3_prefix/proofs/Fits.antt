@@ -11,18 +11,7 @@ use borrow.Author.Tests.{le-leb, lt-leb, leb-true}
 use Rattle.format.specs.Cut.{standing, fitting, prefixRule}
 use Rattle.format.specs.Prefix.{octets}
 use Rattle.format.specs.V3.{prefixFits}
-use Rattle.v3_prefix.specs.Fits.{fitOf, entryFits}
-use Rattle.v3_prefix.specs.declared.Fit.{Fit}
-use Rattle.v3_prefix.specs.declared.Fit.the-variants.{Octets, Nothing}
-
--- The code's answer tells which case of the definition it is.
-pub some-of : (x : Option ℕ) (n : ℕ) (y : Fit) → y ≡ fitOf x → y ≡ Octets n → x ≡ some n
-some-of (some m) n y e h = let z : m ≡ n = cc in rw z
-some-of none n y e h = let z : _≡_ {A = ℕ} 0 1 = cc in absurd (omega arith)
-
-pub none-of : (x : Option ℕ) (y : Fit) → y ≡ fitOf x → y ≡ Nothing → x ≡ none
-none-of (some m) y e h = let z : _≡_ {A = ℕ} 0 1 = cc in absurd (omega arith)
-none-of none y e h = refl
+use Rattle.v3_prefix.specs.Fits.{entryFits}
 
 module _ (b : List ℕ) (l p : ℕ) where
   -- a prefix fits where it has octets and they lie in the body

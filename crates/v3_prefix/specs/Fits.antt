@@ -1,15 +1,9 @@
--- The code's answer for whether a prefix fits, and the two places where a prefix is asked for.
+-- The two places where a prefix is asked for.
 use Prim.Native.Nat.{ℕ, _+_}
 use mathlib.Core.List.{List}
-use mathlib.Core.Option.{Option, none, some}
+use mathlib.Core.Option.{Option}
 use lib.ListN.{getD}
 use Rattle.format.specs.V3.{prefixFits}
-use Rattle.v3_prefix.specs.declared.Fit.{Fit}
-use Rattle.v3_prefix.specs.declared.Fit.the-variants.{Octets, Nothing}
-
-abbrev pub fitOf : Option ℕ → Fit
-fitOf none = Nothing
-fitOf (some n) = Octets n
 
 -- RFC 5340 A.4.5 and A.4.7: PrefixLength at 4, Address Prefix at 8.
 abbrev pub fixedPrefixFits : List ℕ → Option ℕ

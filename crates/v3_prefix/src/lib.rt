@@ -10,16 +10,17 @@ ghost use Rattle.format.specs.Cut.{cut, after, prefixRule};
 ghost use Rattle.format.specs.Strip.{encode};
 ghost use Rattle.format.specs.V3.{prefixFits, prefix};
 ghost use Rattle.format.specs.Wrote.{Wrote};
-ghost use Rattle.v3_prefix.specs.Fits.{fitOf, fixedPrefixFits, entryFits};
+ghost use Rattle.util.specs.Answers.{lengthOf};
+ghost use Rattle.v3_prefix.specs.Fits.{fixedPrefixFits, entryFits};
 ghost use Rattle.v3_prefix.specs.Parts.{prefixMetric, prefixFields};
 use body::Listed;
-use strip::push::begin_container;
-use strip::push::end_container;
-use strip::push::push_ipv6_at;
-use strip::push::push_u8_at;
-use strip::push::push_u16_at;
-use tlv::PrefixOctets;
+use strip_push::begin_container;
+use strip_push::end_container;
+use strip_push::push_ipv6_at;
+use strip_push::push_u8_at;
+use strip_push::push_u16_at;
 use tlv::prefix_octets;
+use util::Length;
 
 pub mod measure;
 
@@ -49,33 +50,27 @@ const P_PREFIX: u8 = 83;
 
 const PREFIX_ENTRY: u8 = 97;
 
-// The octets of a prefix that lie in a body, or that they do not.
-pub enum Fit {
-    Octets(usize),
-    Nothing,
-}
-
 // The octets of a prefix of so many bits, if they lie in a body from p on.
-fn prefix_fits(body: &[u8], prefix_length: u8, p: usize) -> Fit
+fn prefix_fits(body: &[u8], prefix_length: u8, p: usize) -> Length
     requires { ⌜ p ≤ length (now body) ⌝ }
-    ensures { λ r. ⌜ r ≡ fitOf (prefixFits (now (body .entry)) «prefix_length» p) ⌝ }
+    ensures { λ r. ⌜ r ≡ lengthOf (prefixFits (now (body .entry)) «prefix_length» p) ⌝ }
 {
-    let PrefixOctets::Octets(n) = prefix_octets(prefix_length) else {
-        return Fit::Nothing;
+    let Length::Bytes(n) = prefix_octets(prefix_length) else {
+        return Length::Nothing;
     };
     if n <= body.len() - p {
-        Fit::Octets(n)
+        Length::Bytes(n)
     } else {
-        Fit::Nothing
+        Length::Nothing
     }
 }
 
 // The prefix of a body whose PrefixLength is its byte 4 and whose octets begin at 8.
-pub fn fixed_prefix_fits(body: &[u8]) -> Fit
-    ensures { λ r. ⌜ r ≡ fitOf (fixedPrefixFits (now (body .entry))) ⌝ }
+pub fn fixed_prefix_fits(body: &[u8]) -> Length
+    ensures { λ r. ⌜ r ≡ lengthOf (fixedPrefixFits (now (body .entry))) ⌝ }
 {
     if body.len() < 8 {
-        return Fit::Nothing;
+        return Length::Nothing;
     }
     prefix_fits(body, body[4], 8)
 }
@@ -88,12 +83,12 @@ pub fn present(has: bool, n: usize) -> usize
 }
 
 // The octets of the prefix that an entry of a list has at p, if the entry lies in the body.
-fn entry_fits(body: &[u8], p: usize) -> Fit
+fn entry_fits(body: &[u8], p: usize) -> Length
     requires { ⌜ p ≤ length (now body) ⌝ }
-    ensures { λ r. ⌜ r ≡ fitOf (entryFits (now (body .entry)) p) ⌝ }
+    ensures { λ r. ⌜ r ≡ lengthOf (entryFits (now (body .entry)) p) ⌝ }
 {
     if body.len() - p < 4 {
-        return Fit::Nothing;
+        return Length::Nothing;
     }
     prefix_fits(body, body[p], p + 4)
 }
@@ -146,7 +141,7 @@ fn push_prefix_entries(
         if left == 0 {
             break pos;
         }
-        let Fit::Octets(n) = entry_fits(body, pos) else {
+        let Length::Bytes(n) = entry_fits(body, pos) else {
             break pos;
         };
         a = push_prefix(strip, a, body, pos, n, with_metric, o);

@@ -8,10 +8,10 @@ ghost use Rattle.format.specs.Cut.{cut, after, prefixRule};
 ghost use Rattle.format.specs.Strip.{encode};
 ghost use Rattle.format.specs.V3.{prefix};
 ghost use mathlib.Core.List.{flatMap};
-use crate::Fit;
 use crate::entry_fits;
 use crate::present;
 use body::Listed;
+use util::Length;
 
 // What an array takes beside its entries.
 pub const ARRAY: usize = 11;
@@ -41,7 +41,7 @@ fn measure_prefix_entries(body: &[u8], p: usize, due: u32, with_metric: bool, su
     if due == 0 {
         return Listed { at: sum, end: p };
     }
-    let Fit::Octets(n) = entry_fits(body, p) else {
+    let Length::Bytes(n) = entry_fits(body, p) else {
         return Listed { at: sum, end: p };
     };
     let entry = PREFIX_ENTRY + present(with_metric, PREFIX_METRIC);

@@ -8,17 +8,17 @@ ghost use Rattle.format.specs.V3.{options, references, interAreaPrefixLsa, link
 ghost use Rattle.format.specs.Wrote.{Wrote};
 ghost use Rattle.body.specs.Answers.{bytesOf, Pushed};
 use body::Body;
-use strip::push::push_ipv4_at;
-use strip::push::push_ipv6_at;
-use strip::push::push_metric24_at;
-use strip::push::push_u8_at;
-use strip::push::push_u16_at;
-use strip::push::push_u24_at;
-use strip::push::push_u32_at;
-use strip::push::push_wide16_at;
+use strip_push::push_ipv4_at;
+use strip_push::push_ipv6_at;
+use strip_push::push_metric24_at;
+use strip_push::push_u8_at;
+use strip_push::push_u16_at;
+use strip_push::push_u24_at;
+use strip_push::push_u32_at;
+use strip_push::push_wide16_at;
+use util::Length;
 use util::read_be_u16;
 use util::read_be_u32;
-use v3_prefix::Fit;
 use v3_prefix::METRIC;
 use v3_prefix::PREFIX;
 use v3_prefix::PREFIX_LENGTH;
@@ -69,7 +69,7 @@ pub fn push_inter_area_prefix_lsa(strip: &mut [u8], at: usize, body: &[u8], o: u
     requires { ⌜ o + length (now body) < 4294967296 ⌝ }
     ensures { λ r. ⌜ Pushed (interAreaPrefixLsa (now (body .entry)) o) (now (strip .entry)) at (now (strip .exit)) r ⌝ }
 {
-    let Fit::Octets(n) = fixed_prefix_fits(body) else {
+    let Length::Bytes(n) = fixed_prefix_fits(body) else {
         return Body::Raw;
     };
     let a = push_metric24_at(strip, at, METRIC, body, 1, o);

@@ -6,9 +6,9 @@ ghost use lib.ListN.{length};
 ghost use Rattle.format.specs.V3.{interAreaPrefixLsa, linkLsa, intraAreaPrefixLsa};
 ghost use Rattle.body.specs.Answers.{measuredOf};
 use body::Body;
+use util::Length;
 use util::read_be_u16;
 use util::read_be_u32;
-use v3_prefix::Fit;
 use v3_prefix::fixed_prefix_fits;
 use v3_prefix::measure::measure_prefixes;
 
@@ -32,7 +32,7 @@ pub fn measure_inter_area_prefix_lsa(body: &[u8]) -> Body
     requires { ⌜ length (now body) < 65536 ⌝ }
     ensures { λ r. ⌜ ((o : ℕ) → r ≡ measuredOf (interAreaPrefixLsa (now (body .entry)) o)) ⌝ }
 {
-    let Fit::Octets(n) = fixed_prefix_fits(body) else {
+    let Length::Bytes(n) = fixed_prefix_fits(body) else {
         return Body::Raw;
     };
     Body::Decoded {

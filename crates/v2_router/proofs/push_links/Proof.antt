@@ -10,7 +10,7 @@ use Rattle.format.proofs.Wrote.{kept}
 use Rattle.format.proofs.Loop.{spread, begin, turn, room, finish}
 use Rattle.format.proofs.Unique.{cut-none}
 use Rattle.format.specs.Cut.{cut, linkRule}
-use Rattle.fit.proofs.Laws.{some-of, none-of}
+use Rattle.util.proofs.Laws.{some-of, none-of}
 use Rattle.format.proofs.Rules.{link-inside}
 use Rattle.v2_router.proofs.Rest.{Standing, left-length, left-rule, left-link, left-after}
 use Rattle.v2_router.proofs.push_links.Statement.{statement}

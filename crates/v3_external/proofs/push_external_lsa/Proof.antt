@@ -9,7 +9,7 @@ use Rattle.body.proofs.Laws.{pushed-decoded, pushed-raw}
 use Rattle.v3_prefix.specs.Fits.{fixedPrefixFits}
 use Rattle.v3_external.proofs.Bodies.{external-raw, external-short, external-decoded}
 use Rattle.format.proofs.Prefix.{fits-inside}
-use Rattle.v3_prefix.proofs.Fits.{some-of, none-of}
+use Rattle.util.proofs.Laws.{some-of, none-of}
 use Rattle.v3_external.proofs.push_external_lsa.Statement.{statement}
 use Rattle.v3_external.proofs.push_external_lsa.Tie as tie
 

@@ -1,7 +1,7 @@
 use native.Mathlib.Omega.{arith}
 use borrow.Author.Needs.{needs}
 use Rattle.format.specs.Prefix.{octets}
-use Rattle.tlv.proofs.Laws.{some-of, none-of}
+use Rattle.util.proofs.Laws.{some-of, none-of}
 use Rattle.v3_prefix.proofs.Fits.{fits-none, fits-some, fits-past}
 use Rattle.v3_prefix.proofs.prefix_fits.Statement.{statement}
 use Rattle.v3_prefix.proofs.prefix_fits.Tie as tie

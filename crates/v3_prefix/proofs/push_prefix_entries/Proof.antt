@@ -11,7 +11,8 @@ use Rattle.format.proofs.Unique.{cut-none}
 use Rattle.format.proofs.Wrote.{kept}
 use Rattle.v3_prefix.specs.Fits.{entryFits}
 use Rattle.format.proofs.Prefix.{fits-inside}
-use Rattle.v3_prefix.proofs.Fits.{some-of, none-of, entry-stands, entry-ends}
+use Rattle.util.proofs.Laws.{some-of, none-of}
+use Rattle.v3_prefix.proofs.Fits.{entry-stands, entry-ends}
 use Rattle.v3_prefix.proofs.push_prefix_entries.Statement.{statement}
 use Rattle.v3_prefix.proofs.push_prefix_entries.Tie as tie
 

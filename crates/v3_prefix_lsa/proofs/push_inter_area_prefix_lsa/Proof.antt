@@ -9,7 +9,7 @@ use Rattle.body.proofs.Laws.{pushed-decoded, pushed-raw}
 use Rattle.v3_prefix.specs.Fits.{fixedPrefixFits}
 use Rattle.v3_prefix_lsa.proofs.Bodies.{inter-area-prefix-raw, inter-area-prefix-decoded}
 use Rattle.format.proofs.Prefix.{fits-inside}
-use Rattle.v3_prefix.proofs.Fits.{some-of, none-of}
+use Rattle.util.proofs.Laws.{some-of, none-of}
 use Rattle.v3_prefix_lsa.proofs.push_inter_area_prefix_lsa.Statement.{statement}
 use Rattle.v3_prefix_lsa.proofs.push_inter_area_prefix_lsa.Tie as tie
 

@@ -10,7 +10,7 @@ use Rattle.format.proofs.Unique.{cut-none}
 use Rattle.format.specs.Strip.{encode}
 use Rattle.format.specs.Cut.{cut, after, linkRule}
 use Rattle.format.specs.V2.{link}
-use Rattle.fit.proofs.Laws.{some-of, none-of}
+use Rattle.util.proofs.Laws.{some-of, none-of}
 use Rattle.format.proofs.Rules.{link-inside}
 use Rattle.format.proofs.Sizes.{links-bound}
 use Rattle.v2_router.proofs.measure.measure_links.Statement.{statement}

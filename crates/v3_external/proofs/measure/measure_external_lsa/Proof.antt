@@ -9,7 +9,7 @@ use Rattle.format.specs.V3.{hasForwarding, hasTag, hasReference}
 use Rattle.v3_prefix.specs.Fits.{fixedPrefixFits}
 use Rattle.v3_external.proofs.Bodies.{external-raw, external-short, external-decoded}
 use Rattle.format.proofs.Prefix.{fits-inside}
-use Rattle.v3_prefix.proofs.Fits.{some-of, none-of}
+use Rattle.util.proofs.Laws.{some-of, none-of}
 use Rattle.format.proofs.Lengths.{at-most, length-optional}
 use Rattle.v3_external.proofs.measure.measure_external_lsa.Statement.{statement}
 use Rattle.v3_external.proofs.measure.measure_external_lsa.Tie as tie

@@ -7,7 +7,7 @@ use Rattle.format.specs.Strip.{encode, code}
 use Rattle.v3_prefix.specs.Fits.{fixedPrefixFits}
 use Rattle.v3_prefix_lsa.proofs.Bodies.{inter-area-prefix-raw, inter-area-prefix-decoded}
 use Rattle.format.proofs.Prefix.{fits-inside}
-use Rattle.v3_prefix.proofs.Fits.{some-of, none-of}
+use Rattle.util.proofs.Laws.{some-of, none-of}
 use Rattle.v3_prefix_lsa.proofs.measure.measure_inter_area_prefix_lsa.Statement.{statement}
 use Rattle.v3_prefix_lsa.proofs.measure.measure_inter_area_prefix_lsa.Tie as tie
 

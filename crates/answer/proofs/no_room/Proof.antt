@@ -1,6 +1,0 @@
-use borrow.Author.Needs.{needs}
-use Rattle.answer.proofs.no_room.Statement.{statement}
-use Rattle.answer.proofs.no_room.Tie as tie
-
-pub no-room-spec : {M : Type 1} → statement M
-no-room-spec = tie.close (tie.spec (search needs))

@@ -1,0 +1,19 @@
+use native.Mathlib.Omega.{arith}
+use Rattle.format.proofs.Wrote.{then, kept}
+use Rattle.print_digits.proofs.Numerals.{length-digits}
+use borrow.Author.Needs.{needs}
+use Rattle.print_digits.proofs.put_dot.Statement.{statement}
+use Rattle.print_digits.proofs.put_dot.Tie as tie
+
+put-u8-requires : tie.Need-put-u8-requires
+put-u8-requires c κs =
+    let w = c .before .before .before .put-digits .ensures in
+    let l = length-digits 19 (c .before .before .before .before .before .before .args .n) in
+    let g = kept w in
+    omega (arith, w .place)
+
+returns : tie.Need-returns
+returns c = then (c .before .before .before .before .before .before .put-digits .ensures) (c .before .before .put-u8 .ensures)
+
+pub put-dot-spec : {M : Type 1} → statement M
+put-dot-spec = tie.close (tie.spec (search needs) put-u8-requires (search needs) returns)

@@ -1,0 +1,46 @@
+use native.Mathlib.Omega.{arith}
+use mathlib.Core.Path.{_≡_}
+use lib.ListN.{getD}
+use borrow.Author.Tests.{le-leb, lt-leb}
+use Rattle.format.specs.Walks.{walkNamed}
+use Rattle.walk_answer.proofs.Answers.{walk-of, no-walk-of}
+use Rattle.replay_call.specs.Stored.{isCall, walkAt, sizeAt, answerAt}
+use Rattle.replay_call.proofs.Rule.{is-walk, no-walk}
+use borrow.Author.Needs.{needs}
+use Rattle.replay_call.proofs.is_call.Statement.{statement}
+use Rattle.replay_call.proofs.is_call.Tie as tie
+
+enum-told : tie.Need-enum-told
+enum-told c = search needs
+
+returns : tie.Need-returns
+unfolding isCall
+returns c =
+    let s = c .before .before .before .before .before .args in
+    let n = walkAt (s .file .now) (s .pos) in
+    rw (no-walk n (no-walk-of (walkNamed n) _ (c .before .before .walk-named .ensures) (c .enum-told2 .given .1)))
+
+returns-2 : tie.Need-returns-2
+unfolding isCall
+returns-2 c =
+    let s = c .before .before .before .before .before .before .before .args in
+    let f = s .file .now in
+    let w = is-walk (walkAt f (s .pos)) (walk-of (walkNamed (walkAt f (s .pos))) _ _ (c .before .before .before .before .walk-named .ensures) (c .before .before .enum-told .given .1)) in
+    let z : s .size ≡ sizeAt f (s .pos) = c .before .before .before .before .before .before .before .pre .1 in
+    let t = rw z at (c .if1 .taken) in
+    rw (w, lt-leb (getD f (answerAt f (s .pos)) 0) 5 (omega arith))
+
+returns-3 : tie.Need-returns-3
+unfolding isCall
+returns-3 c =
+    let s = c .before .before .before .before .before .before .before .before .args in
+    let f = s .file .now in
+    let w = is-walk (walkAt f (s .pos)) (walk-of (walkNamed (walkAt f (s .pos))) _ _ (c .before .before .before .before .before .walk-named .ensures) (c .before .before .before .enum-told .given .1)) in
+    let z : s .size ≡ sizeAt f (s .pos) = c .before .before .before .before .before .before .before .before .pre .1 in
+    let t = rw z at (c .before .if1 .left) in
+    rw (w, le-leb (getD f (answerAt f (s .pos)) 0) 5 (omega arith), c .read-be-u32 .ensures)
+
+pub is-call-spec : {M : Type 1} → statement M
+is-call-spec = tie.close (tie.spec
+    (search needs) (search needs) (search needs) enum-told (search needs) returns (search needs) (search needs)
+    (search needs) returns-2 (search needs) (search needs) (search needs) returns-3)

@@ -1,9 +1,0 @@
-use borrow.Author.Needs.{needs}
-use Rattle.strip.proofs.push.push_low_bits_at.Statement.{statement}
-use Rattle.strip.proofs.push.push_low_bits_at.Tie as tie
-
-returns : tie.Need-returns
-returns c = c .before .before .push-u8 .ensures
-
-pub push-low-bits-at-spec : {M : Type 1} → statement M
-push-low-bits-at-spec = tie.close (tie.spec (search needs) (search needs) (search needs) (search needs) returns)

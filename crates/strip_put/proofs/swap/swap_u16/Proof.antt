@@ -1,0 +1,12 @@
+use mathlib.Core.Path.{refl}
+use Rattle.strip_put.specs.Swap.{swap16}
+use borrow.Author.Needs.{needs}
+use Rattle.strip_put.proofs.swap.swap_u16.Statement.{statement}
+use Rattle.strip_put.proofs.swap.swap_u16.Tie as tie
+
+returns : tie.Need-returns
+unfolding swap16
+returns c = refl
+
+pub swap-u16-spec : {M : Type 1} → statement M
+swap-u16-spec = tie.close (tie.spec (search needs) (search needs) returns)

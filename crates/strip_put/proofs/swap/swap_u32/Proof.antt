@@ -1,0 +1,13 @@
+use Rattle.strip_put.specs.Swap.{swap32}
+use borrow.Author.Needs.{needs}
+use Rattle.strip_put.proofs.swap.swap_u32.Statement.{statement}
+use Rattle.strip_put.proofs.swap.swap_u32.Tie as tie
+
+returns : tie.Need-returns
+unfolding swap32
+returns c = rw (← (c .before .swap-u16 .ensures), ← (c .swap-u162 .ensures))
+
+pub swap-u32-spec : {M : Type 1} → statement M
+swap-u32-spec = tie.close (tie.spec
+    (search needs) (search needs) (search needs) (search needs) (search needs) (search needs) (search needs)
+    (search needs) returns)

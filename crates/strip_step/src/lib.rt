@@ -1,0 +1,159 @@
+// The step of the strip reader, on a strip and a place: the entry that stands there and the next place, the end, or a
+// refusal's number.
+ghost use mathlib.Core.Path.{_≡_};
+ghost use Prim.Native.Nat.{_+_, _≤_};
+ghost use mathlib.Core.Option.{none};
+ghost use lib.ListN.{length};
+ghost use Rattle.format.specs.Strip.{bodyLength, entryAt, stepAt};
+ghost use Rattle.util.specs.Answers.{lengthOf};
+ghost use Rattle.strip_step.specs.Answers.{entryOf, stepOf, bodySize};
+use util::Length;
+use util::read_be_u16;
+use util::read_be_u32;
+use util::read_be_u64;
+
+// An entry: where its field lies, and its value. An IPv4 address is the number of its bytes, an IPv6 address the numbers
+// of its two halves.
+pub enum Entry {
+    Open {
+        id: u8,
+        start: u32,
+        end: u32,
+    },
+    Close,
+    U8 {
+        id: u8,
+        start: u32,
+        end: u32,
+        value: u8,
+    },
+    U16 {
+        id: u8,
+        start: u32,
+        end: u32,
+        value: u16,
+    },
+    U32 {
+        id: u8,
+        start: u32,
+        end: u32,
+        value: u32,
+    },
+    Ipv4 {
+        id: u8,
+        start: u32,
+        end: u32,
+        address: u32,
+    },
+    Ipv6 {
+        id: u8,
+        start: u32,
+        end: u32,
+        high: u64,
+        low: u64,
+    },
+    Bytes {
+        id: u8,
+        start: u32,
+        end: u32,
+    },
+}
+
+pub enum Step {
+    Entry(Entry, usize),
+    End,
+    Refused(u8),
+}
+
+// The refusals of a step, in their order: the place is beyond the strip, no kind has this number, the entry is cut.
+const PLACE_BEYOND: u8 = 6;
+
+const NO_KIND: u8 = 7;
+
+const ENTRY_CUT: u8 = 8;
+
+// The length of a kind's body.
+fn body_length(kind: u8) -> Length
+    ensures { λ r. ⌜ r ≡ lengthOf (bodyLength kind) ⌝ }
+{
+    match kind {
+        1 => Length::Bytes(9),
+        2 => Length::Bytes(0),
+        3 => Length::Bytes(10),
+        4 => Length::Bytes(11),
+        5 => Length::Bytes(13),
+        6 => Length::Bytes(13),
+        7 => Length::Bytes(25),
+        8 => Length::Bytes(9),
+        _ => Length::Nothing,
+    }
+}
+
+// The entry of a kind whose body stands at q.
+fn entry_at(kind: u8, strip: &[u8], q: usize) -> Entry
+    requires { ⌜ q + bodySize kind ≤ length (now strip) ⌝ }
+    requires { ⌜ (bodyLength kind ≡ none → ⊥) ⌝ }
+    ensures { λ r. ⌜ r ≡ entryOf (entryAt kind (now (strip .entry)) q) ⌝ }
+{
+    if kind == 2 {
+        return Entry::Close;
+    }
+    let id = strip[q];
+    let start = read_be_u32(strip, q + 1);
+    let end = read_be_u32(strip, q + 5);
+    match kind {
+        1 => Entry::Open { id, start, end },
+        3 => Entry::U8 {
+            id,
+            start,
+            end,
+            value: strip[q + 9],
+        },
+        4 => Entry::U16 {
+            id,
+            start,
+            end,
+            value: read_be_u16(strip, q + 9),
+        },
+        5 => Entry::U32 {
+            id,
+            start,
+            end,
+            value: read_be_u32(strip, q + 9),
+        },
+        6 => Entry::Ipv4 {
+            id,
+            start,
+            end,
+            address: read_be_u32(strip, q + 9),
+        },
+        7 => Entry::Ipv6 {
+            id,
+            start,
+            end,
+            high: read_be_u64(strip, q + 9),
+            low: read_be_u64(strip, q + 17),
+        },
+        _ => Entry::Bytes { id, start, end },
+    }
+}
+
+pub fn step_at(strip: &[u8], place: usize) -> Step
+    ensures { λ r. ⌜ r ≡ stepOf (stepAt (now (strip .entry)) place) ⌝ }
+{
+    if strip.len() < place {
+        return Step::Refused(PLACE_BEYOND);
+    }
+    if place == strip.len() {
+        return Step::End;
+    }
+    let kind = strip[place];
+    let Length::Bytes(n) = body_length(kind) else {
+        return Step::Refused(NO_KIND);
+    };
+    let q = place + 1;
+    if strip.len() - q < n {
+        return Step::Refused(ENTRY_CUT);
+    }
+    Step::Entry(entry_at(kind, strip, q), q + n)
+}
