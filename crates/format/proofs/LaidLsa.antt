@@ -29,14 +29,6 @@ use Rattle.format.proofs.Rules.{inside}
 use Rattle.format.proofs.Prefix.{fits-inside}
 use Rattle.format.proofs.Laid.{allHave, AllIn, cut-inside, fixed-length, fixed-end, after-from, widen, laid-fields, laid-append, laid-container, laid-cond, laid-listing, laid-listing-if, weaken, only-more}
 
--- What is inside a link of version 2, and inside a prefix of version 3.
-abbrev pub linkInside : List ℕ → ℕ → Span → List Entry
-linkInside b o s = v2.linkFields b o (s .at) ++ listingIfAny 69 (v2.linkTos b o) o (s .at + 12) (v2.linkTosSpans b (s .at))
-
-abbrev pub prefixInside : Bool → List ℕ → ℕ → Span → List Entry
-prefixInside m b o s =
-    u8At 80 b o (s .at) ∷ u8At 81 b o (s .at + 1) ∷ (cond m (u16At 82 b o (s .at + 2) ∷ []) [] ++ (ip6At 83 b o (s .at + 4) (s .len - 4) ∷ []))
-
 -- Headers, and the items of lists, by the containers c and the ranges r that are allowed.
 module _ {c r : List ℕ} (b : List ℕ) (o : ℕ) where
   pub laid-header2 : Laid (only c r) o (o + 20) (headerEntries2 b o)
@@ -54,7 +46,7 @@ module _ {c r : List ℕ} (b : List ℕ) (o : ℕ) where
   unfolding attachedRouter
   laid-attached p n e = let q = fixed-length 4 b p n e in laid-fields _ refl (omega arith)
 
-  pub laid-prefix-inside : (m : Bool) (s : Span) → Laid (only c r) (o + s .at) (o + (s .at + 4) + (s .len - 4)) (prefixInside m b o s)
+  pub laid-prefix-inside : (m : Bool) (s : Span) → Laid (only c r) (o + s .at) (o + (s .at + 4) + (s .len - 4)) (v3.prefixInside m b o s)
   laid-prefix-inside m s =
       laid-append {xs = u8At 80 b o (s .at) ∷ u8At 81 b o (s .at + 1) ∷ []} (laid-fields _ refl (omega arith))
       (laid-append (laid-cond m {xs = u16At 82 b o (s .at + 2) ∷ []} (laid-fields _ refl (omega arith)) none)
@@ -80,7 +72,7 @@ module _ {c r : List ℕ} (b : List ℕ) (o : ℕ) where
         laid-container _ _ _ h (omega arith) (omega arith) (omega arith) (laid-fields _ refl (omega arith))
 
     -- a link up to the end of its TOS metrics, whether or not it stands in the body
-    pub laid-link-inside : among c 69 ≡ true → (s : Span) → Laid (only c r) (o + s .at) (o + after (s .at + 12) (v2.linkTosSpans b (s .at))) (linkInside b o s)
+    pub laid-link-inside : among c 69 ≡ true → (s : Span) → Laid (only c r) (o + s .at) (o + after (s .at + 12) (v2.linkTosSpans b (s .at))) (v2.linkInside b o s)
     laid-link-inside k s =
         let a = after-from (v2.linkTosSpans b (s .at)) (s .at + 12) in
         laid-append (laid-fields (v2.linkFields b o (s .at)) refl (omega arith))
@@ -212,12 +204,12 @@ module _ (b : List ℕ) (o q : ℕ) where
 
   inter-area-prefix : {c : List ℕ} → Laid3 c v3.interAreaPrefixLsa
   unfolding v3.interAreaPrefixLsa
-  inter-area-prefix {c} = go (v3.prefixFits b (getD b 4 0) 8) refl
+  inter-area-prefix {c} = go (v3.fixedPrefixFits b) refl
     where
       fields : ℕ → ℕ → List Entry
       fields p n = metric24At 17 b p 1 ∷ u8At 18 b p 4 ∷ u8At 19 b p 5 ∷ ip6At 20 b p 8 n ∷ []
 
-      go : (x : Option ℕ) → v3.prefixFits b (getD b 4 0) 8 ≡ x → BodyLaid 32 b o c
+      go : (x : Option ℕ) → v3.fixedPrefixFits b ≡ x → BodyLaid 32 b o c
           (elim x [ nothing ↦ raw | some n ↦ decoded (fields o n) (8 + n) ])
           (elim x [ nothing ↦ raw | some n ↦ decoded (fields q n) (8 + n) ])
       go nothing e = is-raw
@@ -241,7 +233,7 @@ module _ (b : List ℕ) (o q : ℕ) where
 
   external3 : {c : List ℕ} → Laid3 c v3.externalLsa3
   unfolding v3.externalLsa3
-  external3 {c} = go (v3.prefixFits b (getD b 4 0) 8)
+  external3 {c} = go (v3.fixedPrefixFits b)
     where
       fields : ℕ → ℕ → List Entry
       fields p n = v3.externalFlags b p ++ (v3.externalPrefix b p n ++ v3.externalOptional b p n)

@@ -28,7 +28,7 @@ use Rattle.format.specs.CutInto.{LinkAt, PrefixAt}
 use Rattle.format.proofs.CutInto.{cut-into, only-cut, link-stands, prefix-stands}
 use Rattle.format.proofs.Nested.{Nested, nested-fields, nested-append, nested-leftover, absent, ranges-append, ranges-container}
 use Rattle.format.proofs.Laid.{cut-inside}
-use Rattle.format.proofs.NestedLsa.{nested-header2, nested-header3, linkInside, nested-link-inside, prefixInside, nested-prefix-inside}
+use Rattle.format.proofs.NestedLsa.{nested-header2, nested-header3, nested-link-inside, nested-prefix-inside}
 
 -- An array of containers, seen by an id that is neither theirs nor inside them, or by theirs.
 module _ (o item : ℕ) (inside : Span → List Entry) where
@@ -103,7 +103,7 @@ links-shown d o h l =
     let q = o + headerSize in
     let m = le-ltb (length b) 4 l in
     let ends = cut-inside 12 _ b (be16At b 2) 4 l in
-    listed (shows linkRule b (LinkAt b) (link-stands b) (be16At b 2) 4 ends q 16 96 25 (linkInside b q) tos refl refl refl refl
+    listed (shows linkRule b (LinkAt b) (link-stands b) (be16At b 2) 4 ends q 16 96 25 (v2.linkInside b q) tos refl refl refl refl
     (nested-link-inside tos refl refl b q)
     (headerEntries2 d o ++ (v2.routerFlags b q ++ (u16At 15 b q 2 ∷ [])))
     (nested-append tos (nested-header2 tos d o) (nested-fields tos (v2.routerFlags b q ++ (u16At 15 b q 2 ∷ [])) refl))
@@ -127,7 +127,7 @@ link-prefixes-shown d o h l =
     let m = le-ltb (length b) 24 l in
     let fixed = u8At 26 b q 0 ∷ v3.options b q ∷ ip6At 27 b q 4 16 ∷ u32At 28 b q 20 ∷ [] in
     let ends = cut-inside 4 _ b (be32At b 20) 24 l in
-    listed (shows prefixRule b (PrefixAt b) (prefix-stands b) (be32At b 20) 24 ends q 29 97 33 (prefixInside false b q) no-container refl refl refl refl
+    listed (shows prefixRule b (PrefixAt b) (prefix-stands b) (be32At b 20) 24 ends q 29 97 33 (v3.prefixInside false b q) no-container refl refl refl refl
     (nested-prefix-inside no-container false b q)
     (headerEntries3 d o ++ fixed)
     (nested-append no-container (nested-header3 no-container d o) (nested-fields no-container fixed refl))
@@ -144,7 +144,7 @@ area-prefixes-shown d o h l =
     let m = le-ltb (length b) 12 l in
     let fixed = wide16At 28 b q 0 ∷ v3.references b q in
     let ends = cut-inside 4 _ b (be16At b 0) 12 l in
-    listed (shows prefixRule b (PrefixAt b) (prefix-stands b) (be16At b 0) 12 ends q 29 97 33 (prefixInside true b q) no-container refl refl refl refl
+    listed (shows prefixRule b (PrefixAt b) (prefix-stands b) (be16At b 0) 12 ends q 29 97 33 (v3.prefixInside true b q) no-container refl refl refl refl
     (nested-prefix-inside no-container true b q)
     (headerEntries3 d o ++ fixed)
     (nested-append no-container (nested-header3 no-container d o) (nested-fields no-container fixed refl))

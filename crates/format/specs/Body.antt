@@ -40,6 +40,10 @@ unfoldable pub bodyTail : Body → List ℕ → ℕ
 bodyTail (decoded es n) b = length b - n
 bodyTail raw b = 0
 
+-- The id of a link's object in a Router-LSA of either version.
+abbrev pub linkObject : ℕ
+linkObject = 96
+
 -- A router's id in a Network-LSA of either version (RFC 2328 A.4.3, RFC 5340 A.4.4).
 unfoldable pub attachedRouter : List ℕ → ℕ → Span → List Entry
 attachedRouter b o s = ip4At 98 b o (s .at) ∷ []

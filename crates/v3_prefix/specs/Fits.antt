@@ -1,4 +1,4 @@
--- The code's answer for whether a prefix fits, and the two places where a prefix is asked for.
+-- The code's answer for whether a prefix fits, and where one of a list is asked for.
 use Prim.Native.Nat.{ℕ, _+_}
 use mathlib.Core.List.{List}
 use mathlib.Core.Option.{Option, none, some}
@@ -10,10 +10,6 @@ use Rattle.v3_prefix.specs.declared.Fit.the-variants.{Octets, Nothing}
 abbrev pub fitOf : Option ℕ → Fit
 fitOf none = Nothing
 fitOf (some n) = Octets n
-
--- RFC 5340 A.4.5 and A.4.7: PrefixLength at 4, Address Prefix at 8.
-abbrev pub fixedPrefixFits : List ℕ → Option ℕ
-fixedPrefixFits b = prefixFits b (getD b 4 0) 8
 
 -- RFC 5340 A.4.1: in a list, PrefixLength at the entry's first byte, Address Prefix after 4 bytes.
 abbrev pub entryFits : List ℕ → ℕ → Option ℕ

@@ -6,8 +6,7 @@ use mathlib.Core.Path.{_≡_}
 use Rattle.format.specs.Body.Body.{decoded, raw}
 use Rattle.format.specs.Prefix.{ip6At}
 use Rattle.format.specs.Strip.{metric24At, u8At}
-use Rattle.format.specs.V3.{interAreaPrefixLsa}
-use Rattle.v3_prefix.specs.Fits.{fixedPrefixFits}
+use Rattle.format.specs.V3.{interAreaPrefixLsa, fixedPrefixFits}
 
 module _ (b : List ℕ) (o : ℕ) where
   pub inter-area-prefix-raw : fixedPrefixFits b ≡ none → interAreaPrefixLsa b o ≡ raw
