@@ -4,8 +4,8 @@ use mathlib.Core.List.{List, map}
 use Rattle.format.specs.Strip.{Entry, u8At, bitAt, lowBitsAt, u16At, wide16At, u24At, metric24At, u32At, ip4At}
 use Rattle.format.specs.Prefix.{ip6At}
 
--- What stands at a row's place, and so how it is shown. A weight names the one bit of a byte that has it, or, of `lowBits`,
--- all bits below it. A metric of 24 bits is apart from other numbers of 24 bits.
+-- What stands at a row's place, and so how it is shown. A weight names the one bit of a byte that has it, or, of
+-- `lowBits`, all bits below it. A metric of 24 bits is apart from other numbers of 24 bits.
 pub data Field : Type 0 where
   u8 : Field
   bit : (weight : ℕ) → Field

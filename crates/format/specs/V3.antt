@@ -150,8 +150,8 @@ interAreaRouterLsa b o =
     cond (ltb (length b) 12) raw
     (decoded (entriesAt interAreaRouterRows b o 0) 12)
 
--- RFC 5340 A.4.7: whether an external has a Forwarding Address (F), an External Route Tag (T), and a Referenced Link State
--- ID (its Referenced LS Type is not zero).
+-- RFC 5340 A.4.7: whether an external has a Forwarding Address (F), an External Route Tag (T), and a Referenced Link
+-- State ID (its Referenced LS Type is not zero).
 abbrev pub hasForwarding : List ℕ → Bool
 hasForwarding b = eqb (getD b 0 0 / 0x02 % 2) 1
 
@@ -220,8 +220,8 @@ externalLsa3 b o = elim (fixedPrefixFits b) [
       (decoded (externalFlags b o ++ (externalPrefix b o n ++ externalOptional b o n)) (externalEnd b n))
 ]
 
--- RFC 5340 A.4.1: an entry at p of a list of prefixes: PrefixLength, PrefixOptions, a field of 16 bits, Address Prefix of
--- n octets. The field is a metric where m says so, and else it is not shown.
+-- RFC 5340 A.4.1: an entry at p of a list of prefixes: PrefixLength, PrefixOptions, a field of 16 bits, Address Prefix
+-- of n octets. The field is a metric where m says so, and else it is not shown.
 abbrev pub prefixMetric : Bool → List ℕ → ℕ → ℕ → List Entry
 prefixMetric m b o p = cond m (u16At 82 b o (p + 2) ∷ []) []
 
