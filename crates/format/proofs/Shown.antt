@@ -12,9 +12,9 @@ use lib.Seq.{sets, sets-eq, take-append-seam}
 use lib.Dec.{eqb}
 use borrow.Author.Tests.{le-ltb, lt-ltb, eq-eqb}
 use Rattle.format.specs.Bytes.{be16At, be32At}
-use Rattle.format.specs.Strip.{Entry, encode, readAll, container, u8At, u16At, u32At, wide16At}
+use Rattle.format.specs.Strip.{Entry, encode, readAll, container}
 use Rattle.format.specs.Strip.Entry.{bytes}
-use Rattle.format.specs.Prefix.{ip6At}
+use Rattle.format.specs.Layout.{entriesAt}
 use Rattle.format.specs.Cut.{Span, Rule, cut, after, linkRule, prefixRule}
 use Rattle.format.specs.Header.{headerSize, headerEntries2, headerEntries3}
 use Rattle.format.specs.Body.{listing, leftover, bodyEntries, bodyTail}
@@ -26,7 +26,8 @@ use Rattle.format.specs.Shown.{Shows, Listed, LsaShows}
 use Rattle.format.proofs.Read.{read-encode}
 use Rattle.format.specs.CutInto.{LinkAt, PrefixAt}
 use Rattle.format.proofs.CutInto.{cut-into, only-cut, link-stands, prefix-stands}
-use Rattle.format.proofs.Nested.{Nested, nested-fields, nested-append, nested-leftover, absent, ranges-append, ranges-container}
+use Rattle.format.proofs.Nested.{Nested, nested-append, nested-leftover, absent, ranges-append, ranges-container}
+use Rattle.format.proofs.Rows.{rows-nested}
 use Rattle.format.proofs.Laid.{cut-inside}
 use Rattle.format.proofs.NestedLsa.{nested-header2, nested-header3, nested-link-inside, nested-prefix-inside}
 
@@ -105,8 +106,8 @@ links-shown d o h l =
     let ends = cut-inside 12 _ b (be16At b 2) 4 l in
     listed (shows linkRule b (LinkAt b) (link-stands b) (be16At b 2) 4 ends q 16 96 25 (v2.linkInside b q) tos refl refl refl refl
     (nested-link-inside tos refl refl b q)
-    (headerEntries2 d o ++ (v2.routerFlags b q ++ (u16At 15 b q 2 ∷ [])))
-    (nested-append tos (nested-header2 tos d o) (nested-fields tos (v2.routerFlags b q ++ (u16At 15 b q 2 ∷ [])) refl))
+    (headerEntries2 d o ++ entriesAt v2.routerRows b q 0)
+    (nested-append tos (nested-header2 tos d o) (rows-nested b q 0 tos v2.routerRows))
     _ _
     (rw (h, m) (sym (append-assoc (headerEntries2 d o) _ _)))
     (rw (h, m) refl))
@@ -125,12 +126,12 @@ link-prefixes-shown d o h l =
     let b = drop headerSize d in
     let q = o + headerSize in
     let m = le-ltb (length b) 24 l in
-    let fixed = u8At 26 b q 0 ∷ v3.options b q ∷ ip6At 27 b q 4 16 ∷ u32At 28 b q 20 ∷ [] in
+    let fixed = entriesAt v3.linkLsaRows b q 0 in
     let ends = cut-inside 4 _ b (be32At b 20) 24 l in
     listed (shows prefixRule b (PrefixAt b) (prefix-stands b) (be32At b 20) 24 ends q 29 97 33 (v3.prefixInside false b q) no-container refl refl refl refl
     (nested-prefix-inside no-container false b q)
     (headerEntries3 d o ++ fixed)
-    (nested-append no-container (nested-header3 no-container d o) (nested-fields no-container fixed refl))
+    (nested-append no-container (nested-header3 no-container d o) (rows-nested b q 0 no-container v3.linkLsaRows))
     _ _
     (rw (h, m) (sym (append-assoc (headerEntries3 d o) fixed _)))
     (rw (h, m) refl))
@@ -142,12 +143,12 @@ area-prefixes-shown d o h l =
     let b = drop headerSize d in
     let q = o + headerSize in
     let m = le-ltb (length b) 12 l in
-    let fixed = wide16At 28 b q 0 ∷ v3.references b q in
+    let fixed = entriesAt v3.intraAreaPrefixRows b q 0 in
     let ends = cut-inside 4 _ b (be16At b 0) 12 l in
     listed (shows prefixRule b (PrefixAt b) (prefix-stands b) (be16At b 0) 12 ends q 29 97 33 (v3.prefixInside true b q) no-container refl refl refl refl
     (nested-prefix-inside no-container true b q)
     (headerEntries3 d o ++ fixed)
-    (nested-append no-container (nested-header3 no-container d o) (nested-fields no-container fixed refl))
+    (nested-append no-container (nested-header3 no-container d o) (rows-nested b q 0 no-container v3.intraAreaPrefixRows))
     _ _
     (rw (h, m) (sym (append-assoc (headerEntries3 d o) fixed _)))
     (rw (h, m) refl))
