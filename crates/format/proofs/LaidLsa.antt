@@ -10,9 +10,8 @@ use lib.ListN.{length, getD, drop, length-drop}
 use lib.Dec.{ltb, eqb}
 use borrow.Author.Tests.{ltb-true, ltb-false, le-ltb, eq-eqb}
 use Rattle.format.specs.Bytes.{be16At}
-use Rattle.format.specs.Strip.{Entry, container, u8At, u16At, u32At}
+use Rattle.format.specs.Strip.{Entry, container}
 use Rattle.format.specs.Strip.Entry.{bytes}
-use Rattle.format.specs.Prefix.{ip6At}
 use Rattle.format.specs.Layout.{Layout, entriesAt}
 use Rattle.format.specs.Cut.{Span, Rule, cut, after, standing, fixedRule, linkRule, prefixRule}
 use Rattle.format.specs.Header.{headerEntries2, headerEntries3, identityRows2, identityRows3, instanceRows, opaqueRows, isOpaque}
@@ -21,15 +20,15 @@ use Rattle.format.specs.Body.Body.{decoded, raw}
 use Rattle.format.specs.V2 as v2
 use Rattle.format.specs.V3 as v3
 use Rattle.format.specs.Walks.{lsaEntries, lsaTail}
-use Rattle.format.specs.Laid.{start, end, Laid, among, only, Ending}
-use Rattle.format.specs.Laid.Laid.{none}
+use Rattle.format.specs.Laid.{Laid, among, only, Ending}
+use Rattle.format.specs.Laid.Laid.{none, field}
 use Rattle.format.specs.Laid.Ending.{nothing-left, unparsed-left, raw-or-tlvs}
 use Rattle.format.specs.Lists.{from, containers2, containers3, containers, rawOrTlvs, unparsed, holds}
 use Rattle.format.proofs.Unique.{span}
 use Rattle.format.proofs.Rules.{inside}
 use Rattle.format.proofs.Prefix.{fits-inside}
 use Rattle.format.proofs.Rows.{Within, rows-laid, rows-first}
-use Rattle.format.proofs.Laid.{allHave, cut-inside, fixed-length, fixed-end, after-from, widen, laid-fields, laid-append, laid-container, laid-cond, laid-listing, laid-listing-if, weaken, only-more}
+use Rattle.format.proofs.Laid.{cut-inside, fixed-length, fixed-end, after-from, widen, laid-append, laid-container, laid-cond, laid-listing, laid-listing-if, weaken, only-more}
 
 -- Headers, and the items of lists, by the containers c and the ranges r that are allowed.
 module _ {c r : List ℕ} (b : List ℕ) (o : ℕ) where
@@ -57,9 +56,9 @@ module _ {c r : List ℕ} (b : List ℕ) (o : ℕ) where
 
   pub laid-prefix-inside : (m : Bool) (s : Span) → Laid (only c r) (o + s .at) (o + (s .at + 4) + (s .len - 4)) (v3.prefixInside m b o s)
   laid-prefix-inside m s =
-      laid-append {xs = u8At 80 b o (s .at) ∷ u8At 81 b o (s .at + 1) ∷ []} (laid-fields _ refl (omega arith))
-      (laid-append (laid-cond m {xs = u16At 82 b o (s .at + 2) ∷ []} (laid-fields _ refl (omega arith)) none)
-      (laid-fields _ refl (omega arith)))
+      laid-append (rows-laid b o (s .at) 4 v3.prefixRows (omega arith) (omega arith) (omega arith))
+      (laid-append (laid-cond m (rows-laid b o (s .at) 4 v3.prefixMetricRows (omega arith) (omega arith) (omega arith)) none)
+      (rows-laid b o (s .at) (4 + (s .len - 4)) (v3.prefixAddressRows (s .len - 4)) (omega arith) (omega arith) (omega arith)))
 
   module _ (h : among c 97 ≡ true) where
     laid-link-tos : (p n : ℕ) → fixedRule 4 b p ≡ some n → Laid (only c r) (o + p) (o + p + n) (v2.linkTos b o (span p n))
@@ -236,19 +235,18 @@ module _ (b : List ℕ) (o q : ℕ) where
       fields : ℕ → ℕ → List Entry
       fields p n = v3.externalFlags b p ++ (v3.externalPrefix b p n ++ v3.externalOptional b p n)
 
-      -- a field of n bytes that is there where the test says so
-      optional : (t : Bool) (x : Entry) (p n : ℕ) → allHave (only c []) (x ∷ []) ≡ true → start x ≡ o + p → end x ≡ o + p + n → (hi : ℕ) → p + cond t n 0 ≤ hi
-          → Laid (only c []) o (o + hi) (cond t (x ∷ []) [])
-      optional true x p n h s e hi l = laid-fields (x ∷ []) h (omega arith)
-      optional false x p n h s e hi l = none
+      -- n bytes that are there where the test says so
+      optional : (t : Bool) (n : ℕ) (rows : Layout) (p hi : ℕ) → Within n rows → p + cond t n 0 ≤ hi → Laid (only c []) o (o + hi) (cond t (entriesAt rows b o p) [])
+      optional true n rows p hi w l = rows-laid b o p n rows w (omega arith) (omega arith)
+      optional false n rows p hi w l = none
 
       laid : (n : ℕ) → Laid (only c []) o (o + v3.externalEnd b n) (fields o n)
       laid n =
           laid-append (rows-first b o (v3.externalEnd b n) v3.externalFlagRows (omega arith))
           (laid-append (rows-first b o (v3.externalEnd b n) (v3.externalPrefixRows n) (omega arith))
-          (laid-append (optional (v3.hasForwarding b) (ip6At 23 b o (v3.forwardingPlace n) 16) (v3.forwardingPlace n) 16 refl refl refl (v3.externalEnd b n) (omega arith))
-          (laid-append (optional (v3.hasTag b) (u32At 24 b o (v3.tagPlace b n)) (v3.tagPlace b n) 4 refl refl refl (v3.externalEnd b n) (omega arith))
-          (optional (v3.hasReference b) (u32At 25 b o (v3.referencePlace b n)) (v3.referencePlace b n) 4 refl refl refl (v3.externalEnd b n) (omega arith)))))
+          (laid-append (optional (v3.hasForwarding b) 16 v3.forwardingRows _ _ (omega arith) (omega arith))
+          (laid-append (optional (v3.hasTag b) 4 v3.tagRows _ _ (omega arith) (omega arith))
+          (optional (v3.hasReference b) 4 v3.referencedRows _ _ (omega arith) (omega arith)))))
 
       go : (x : Option ℕ) → BodyLaid 32 b o c
           (elim x [ nothing ↦ raw | some n ↦ cond (ltb (length b) (v3.externalEnd b n)) raw (decoded (fields o n) (v3.externalEnd b n)) ])
@@ -329,8 +327,8 @@ ending-laid {c} {w} {u} {lo} {hi} {tail} {es} e = go e
 
     go : Ending c w u lo hi es tail → Laid (only c (u ∷ w)) lo hi es
     go (nothing-left l t) = fewer (omega arith) l
-    go (unparsed-left front s e l f g t) = rw e (laid-append (fewer (omega arith) l) (laid-fields (bytes u s hi ∷ []) (rw (eq-eqb u u refl)) (omega arith)))
-    go (raw-or-tlvs front i s k e l f g t) = rw e (laid-append (fewer g l) (laid-fields (bytes i s hi ∷ []) (rw (or-else (eqb i u) k)) (omega arith)))
+    go (unparsed-left front s e l f g t) = rw e (laid-append (fewer (omega arith) l) (field refl (rw (eq-eqb u u refl)) (omega arith) (omega arith) (omega arith) none))
+    go (raw-or-tlvs front i s k e l f g t) = rw e (laid-append (fewer g l) (field refl (rw (or-else (eqb i u) k)) (omega arith) (omega arith) (omega arith) none))
 
 -- The entries of any LSA, to the end of its header at least; and of one that has its header.
 pub laid-any : (v : ℕ) (d : List ℕ) (o : ℕ) → Laid (holds v d) o (o + 20 + length (drop 20 d)) (lsaEntries v d o)

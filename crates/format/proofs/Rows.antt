@@ -1,5 +1,5 @@
--- Laws of the entries of any table: each row gives one field, which lies where its kind says, so that a table whose rows lie
--- in a record of n bytes is laid out in it, and is well nested.
+-- Laws of the entries of any table: each row gives one field, which lies where its kind says. So a table whose rows lie in
+-- a record of n bytes is laid out in it, and is well nested.
 use Prim.Native.Nat.{ℕ, zero, suc, _+_, _≤_}
 use native.Mathlib.Nat.{add-zero}
 use native.Mathlib.Omega.{arith}
@@ -68,7 +68,9 @@ module _ (b : List ℕ) (o p : ℕ) where
   rows-laid {c} {r} {lo} {hi} n (row k f i ∷ rs) h l m =
       let x = row-is k i f in
       let q = from-place p k in
-      field {lo = lo} {hi = hi} {x = entryOf b o p (row k f i)} (x .is-field) (x .allowed c r) (omega (arith, x .starts)) (omega (arith, x .starts, x .ends)) (omega (arith, x .ends, h .0)) (rows-laid n rs (h .1) l m)
+      let s = x .starts in
+      let e = x .ends in
+      field {lo = lo} {hi = hi} {x = entryOf b o p (row k f i)} (x .is-field) (x .allowed c r) (omega arith) (omega arith) (omega (arith, h .0)) (rows-laid n rs (h .1) l m)
 
 -- The same at the front of its bytes.
 pub rows-first : {c r : List ℕ} (b : List ℕ) (o n : ℕ) (t : Layout) → Within n t → Laid (only c r) o (o + n) (entriesAt t b o 0)

@@ -6,9 +6,9 @@ use mathlib.Core.Option.{Option, none, some}
 use lib.ListN.{length, getD, drop}
 use lib.Dec.{leb, ltb, eqb}
 use Rattle.format.specs.Bytes.{be16At, be32At}
-use Rattle.format.specs.Strip.{Entry, container, u8At, u16At, u32At}
+use Rattle.format.specs.Strip.{Entry, container}
 use Rattle.format.specs.Strip.Entry.{bytes}
-use Rattle.format.specs.Prefix.{octets, ip6At}
+use Rattle.format.specs.Prefix.{octets}
 use Rattle.format.specs.Layout.{Row, Layout, entryOf, entriesAt}
 use Rattle.format.specs.Layout.Field.{u8, bit, u16, wide16, u24, metric24, u32, ip4, ip6}
 use Rattle.format.specs.Layout.Row.{row}
@@ -199,15 +199,30 @@ externalPrefixRows n =
 abbrev pub externalPrefix : List ℕ → ℕ → ℕ → List Entry
 externalPrefix b o n = entriesAt (externalPrefixRows n) b o 0
 
--- RFC 5340 A.4.7: Forwarding Address, External Route Tag, Referenced Link State ID, as present.
+-- RFC 5340 A.4.7: what an external has after its prefix, each where it is present.
+abbrev pub forwardingRows : Layout
+forwardingRows =
+    row 0 (ip6 16) 23 ∷  -- Forwarding Address
+    []
+
+abbrev pub tagRows : Layout
+tagRows =
+    row 0 u32 24 ∷  -- External Route Tag
+    []
+
+abbrev pub referencedRows : Layout
+referencedRows =
+    row 0 u32 referencedId ∷  -- Referenced Link State ID
+    []
+
 abbrev pub forwardingAddress : List ℕ → ℕ → ℕ → List Entry
-forwardingAddress b o n = cond (hasForwarding b) (ip6At 23 b o (forwardingPlace n) 16 ∷ []) []
+forwardingAddress b o n = cond (hasForwarding b) (entriesAt forwardingRows b o (forwardingPlace n)) []
 
 abbrev pub externalRouteTag : List ℕ → ℕ → ℕ → List Entry
-externalRouteTag b o n = cond (hasTag b) (u32At 24 b o (tagPlace b n) ∷ []) []
+externalRouteTag b o n = cond (hasTag b) (entriesAt tagRows b o (tagPlace b n)) []
 
 abbrev pub referencedLinkStateId : List ℕ → ℕ → ℕ → List Entry
-referencedLinkStateId b o n = cond (hasReference b) (u32At referencedId b o (referencePlace b n) ∷ []) []
+referencedLinkStateId b o n = cond (hasReference b) (entriesAt referencedRows b o (referencePlace b n)) []
 
 abbrev pub externalOptional : List ℕ → ℕ → ℕ → List Entry
 externalOptional b o n = forwardingAddress b o n ++ (externalRouteTag b o n ++ referencedLinkStateId b o n)
@@ -220,15 +235,30 @@ externalLsa3 b o = elim (fixedPrefixFits b) [
       (decoded (externalFlags b o ++ (externalPrefix b o n ++ externalOptional b o n)) (externalEnd b n))
 ]
 
--- RFC 5340 A.4.1: an entry at p of a list of prefixes: PrefixLength, PrefixOptions, a field of 16 bits, Address Prefix
--- of n octets. The field is a metric where m says so, and else it is not shown.
+-- RFC 5340 A.4.1: an entry of a list of prefixes, with n octets. Its field of 16 bits is a metric, or it is not shown.
+abbrev pub prefixRows : Layout
+prefixRows =
+    row 0 u8 80 ∷  -- PrefixLength
+    row 1 u8 81 ∷  -- PrefixOptions
+    []
+
+abbrev pub prefixMetricRows : Layout
+prefixMetricRows =
+    row 2 u16 82 ∷  -- Metric
+    []
+
+abbrev pub prefixAddressRows : ℕ → Layout
+prefixAddressRows n =
+    row 4 (ip6 n) 83 ∷  -- Address Prefix
+    []
+
+-- The entries of one at p, which has a metric where m says so.
 abbrev pub prefixMetric : Bool → List ℕ → ℕ → ℕ → List Entry
-prefixMetric m b o p = cond m (u16At 82 b o (p + 2) ∷ []) []
+prefixMetric m b o p = cond m (entriesAt prefixMetricRows b o p) []
 
 abbrev pub prefixFields : Bool → List ℕ → ℕ → ℕ → ℕ → List Entry
-prefixFields m b o p n = u8At 80 b o p ∷ u8At 81 b o (p + 1) ∷ (prefixMetric m b o p ++ (ip6At 83 b o (p + 4) n ∷ []))
+prefixFields m b o p n = entriesAt prefixRows b o p ++ (prefixMetric m b o p ++ entriesAt (prefixAddressRows n) b o p)
 
--- What is inside it.
 abbrev pub prefixInside : Bool → List ℕ → ℕ → Span → List Entry
 prefixInside m b o s = prefixFields m b o (s .at) (s .len - 4)
 
