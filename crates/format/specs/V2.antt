@@ -35,7 +35,7 @@ abbrev tosMetric : ℕ
 tosMetric = 82
 
 -- The object of a TOS metric of n bytes.
-abbrev pub tosObject : Layout → ℕ → List ℕ → ℕ → Span → List Entry
+abbrev tosObject : Layout → ℕ → List ℕ → ℕ → Span → List Entry
 tosObject t n b o s = container 97 (o + s .at) (o + s .at + n) (entriesAt t b o (s .at))
 
 -- RFC 2328 A.4.2: a link's TOS metric, of 16 bits.

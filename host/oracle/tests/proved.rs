@@ -97,46 +97,42 @@ fn table(file: &str, name: &str) -> Vec<String> {
     expanded(&definitions[name].1, &definitions)
 }
 
-/// The rows of a table of LSAs as statements: the LS type, the length of the
-/// body, the bytes that are not counted, the body's entries, and how many bytes
-/// are left. An opaque LSA has an opaque type and a Link State ID besides.
+/// The rows of a table of LSAs as statements. A row has the LS type, the length
+/// of the body, the bytes that are not counted, the body's entries, and how many
+/// bytes are left; that of an opaque LSA an opaque type and a Link State ID
+/// after the LS type, all bytes counted, and nothing left.
 fn layouts(version: u8, file: &str) -> Vec<Vec<String>> {
     let definitions = definitions(&text(file));
     let mut rest = table(file, "bodies");
     let mut rows = Vec::new();
     while rest[0] != "[]" {
-        let row = rest.remove(0);
-        let ls_type = rest.remove(0);
-        let (id, opaque_type) = if row == "opaque" {
-            let opaque_type = rest.remove(0);
-            (rest.remove(0), Some(opaque_type))
+        let opaque = rest.remove(0) == "opaque";
+        let ls_type = number(&rest.remove(0));
+        let (mut but, mut entries) = if opaque {
+            let (opaque_type, id) = (rest.remove(0), rest.remove(0));
+            let header = format!("header2 {ls_type} {id}");
+            let parts = format!("u8 8 1004 1005 {opaque_type} u32 9 1005 1008 0x060708");
+            (
+                format!("but 3 {ls_type} but 4 {opaque_type}"),
+                format!("{header} {parts}"),
+            )
+        } else if version == 2 {
+            (
+                format!("but 3 {ls_type}"),
+                format!("header2 {ls_type} 0x05060708"),
+            )
         } else {
-            ("0x05060708".to_string(), None)
+            (
+                format!("but 2 {} but 3 {}", ls_type >> 8, ls_type & 0xff),
+                format!("header3 {ls_type}"),
+            )
         };
         let length = 20 + number(&rest.remove(0));
-        let mut but = match version {
-            2 => format!("but 3 {ls_type}"),
-            _ => {
-                let [high, low] = (number(&ls_type) as u16).to_be_bytes();
-                format!("but 2 {high} but 3 {low}")
-            }
-        };
-        let mut entries = match version {
-            2 => format!("header2 {ls_type} {id}"),
-            _ => format!("header3 {ls_type}"),
-        };
-        if let Some(opaque_type) = &opaque_type {
-            but += &format!(" but 4 {opaque_type}");
-            entries += &format!(" u8 8 1004 1005 {opaque_type} u32 9 1005 1008 0x060708");
-        } else {
-            but = [vec![but], until(&mut rest, "[]")].concat().join(" ");
+        if !opaque {
+            but = format!("{but} {}", until(&mut rest, "[]").join(" "));
         }
-        entries = [vec![entries], until(&mut rest, "[]")].concat().join(" ");
-        let left = if opaque_type.is_some() {
-            "0".to_string()
-        } else {
-            rest.remove(0)
-        };
+        entries = format!("{entries} {}", until(&mut rest, "[]").join(" "));
+        let left = if opaque { "0".into() } else { rest.remove(0) };
         let row = format!(
             "lsaOf {version} counted {length} {but} [] 1000 ≡ accepted {entries} [] 1 {left}"
         );
