@@ -1,4 +1,5 @@
--- The worked examples, as one table that is computed: P1 to P12 of the requirements, an LSA of each layout, and whole listings.
+-- The worked examples, as one table that is computed: P1 to P12 of the requirements, an LSA of each layout, and whole
+-- listings.
 use Prim.Native.Nat.{ℕ, _-_}
 use mathlib.Core.Path.{_≡_, refl}
 use mathlib.Core.List.{List, [], _∷_, _++_, map, flatMap}

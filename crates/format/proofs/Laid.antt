@@ -1,5 +1,5 @@
--- Laws of entries that are laid out in a range: rows of fields, one list after another, containers, and the entries of a
--- cut; and what follows for each entry and for the nesting.
+-- Laws of entries that are laid out in a range: one list after another, containers, and the entries of a cut; and what
+-- follows for each entry and for the nesting.
 use Prim.Native.Nat.{ℕ, zero, suc, _+_, _*_, _≤_}
 use native.Mathlib.Nat.{suc-mul, zero-mul}
 use native.Mathlib.Omega.{arith}
@@ -17,21 +17,13 @@ use Rattle.format.specs.Cut.{Span, Rule, cut, after, standing, fixedRule
 use Rattle.format.specs.Body.{listing, listingIfAny, leftover}
 use Rattle.format.proofs.Nested.{Nested}
 use Rattle.format.proofs.Nested.Nested.{none as nested-none, field as nested-field, group as nested-group}
-use Rattle.format.specs.Laid.{isField, start, end, Laid, among, only}
+use Rattle.format.specs.Laid.{start, end, Laid, among, only}
 use Rattle.format.specs.Laid.Laid.{none, field, group}
 use Rattle.format.proofs.Unique.{span, cut-none, cut-some}
 use Rattle.format.proofs.Rules.{inside}
 
--- A row of fields that pass the test; and that they lie from lo to hi.
-abbrev pub allHave : (Entry → Bool) → List Entry → Bool
-allHave has [] = true
-allHave has (x ∷ xs) = cond (isField x) (cond (has x) (allHave has xs) false) false
-
-abbrev pub AllIn : ℕ → ℕ → List Entry → Type 0
-AllIn lo hi [] = lo ≤ hi
-AllIn lo hi (x ∷ xs) = (lo ≤ start x) × (start x ≤ end x) × (end x ≤ hi) × AllIn lo hi xs
-
--- A cut ends no earlier than it begins; in the body, where it begins there; and after as many entries as its count at most.
+-- A cut ends no earlier than it begins; in the body, where it begins there; and after as many entries as its count at
+-- most.
 pub after-from : (ss : List Span) (p : ℕ) → p ≤ after p ss
 unfolding after
 after-from [] p = omega arith
@@ -85,16 +77,6 @@ only-more c c′ r r′ f g (ip6 i s e x l) h = h
 only-more c c′ r r′ f g (bytes i s e) h = g i h
 
 module _ {has : Entry → Bool} where
-  pub laid-fields : {lo hi : ℕ} (es : List Entry) → allHave has es ≡ true → AllIn lo hi es → Laid has lo hi es
-  laid-fields [] h r = none
-  laid-fields {lo} {hi} (x ∷ xs) h r = go (isField x) refl (has x) refl h (laid-fields xs)
-    where
-      go : (s : Bool) → isField x ≡ s → (t : Bool) → has x ≡ t → cond s (cond t (allHave has xs) false) false ≡ true
-          → (allHave has xs ≡ true → AllIn lo hi xs → Laid has lo hi xs) → Laid has lo hi (x ∷ xs)
-      go true e true f h l = field e f (r .0) (r .1) (r .2) (l h (r .3))
-      go true e false f h l = let z : _≡_ {A = ℕ} 0 1 = cc in absurd (omega arith)
-      go false e t f h l = let z : _≡_ {A = ℕ} 0 1 = cc in absurd (omega arith)
-
   pub laid-append : {lo hi : ℕ} {xs ys : List Entry} → Laid has lo hi xs → Laid has lo hi ys → Laid has lo hi (xs ++ ys)
   laid-append none m = m
   laid-append (field f t a b c l) m = field f t a b c (laid-append l m)

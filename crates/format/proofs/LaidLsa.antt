@@ -10,80 +10,74 @@ use lib.ListN.{length, getD, drop, length-drop}
 use lib.Dec.{ltb, eqb}
 use borrow.Author.Tests.{ltb-true, ltb-false, le-ltb, eq-eqb}
 use Rattle.format.specs.Bytes.{be16At}
-use Rattle.format.specs.Strip.{Entry, u8At, u16At, wide16At, metric24At, u32At, ip4At}
+use Rattle.format.specs.Strip.{Entry, container}
 use Rattle.format.specs.Strip.Entry.{bytes}
-use Rattle.format.specs.Prefix.{ip6At}
+use Rattle.format.specs.Layout.{Layout, entriesAt}
 use Rattle.format.specs.Cut.{Span, Rule, cut, after, standing, fixedRule, linkRule, prefixRule}
-use Rattle.format.specs.Header.{headerEntries2, headerEntries3, identityEntries2, instanceEntries, opaqueEntries, isOpaque}
-use Rattle.format.specs.Body.{Body, listing, listingIfAny, attachedRouter, whole, leftover, bodyEntries, bodyTail}
+use Rattle.format.specs.Header.{headerEntries2, headerEntries3, identityRows2, identityRows3, instanceRows, opaqueRows, isOpaque}
+use Rattle.format.specs.Body.{Body, listing, listingIfAny, attachedRouterRows, attachedRouter, whole, leftover, bodyEntries, bodyTail}
 use Rattle.format.specs.Body.Body.{decoded, raw}
 use Rattle.format.specs.V2 as v2
 use Rattle.format.specs.V3 as v3
 use Rattle.format.specs.Walks.{lsaEntries, lsaTail}
-use Rattle.format.specs.Laid.{start, end, Laid, among, only, Ending}
-use Rattle.format.specs.Laid.Laid.{none}
+use Rattle.format.specs.Laid.{Laid, among, only, Ending}
+use Rattle.format.specs.Laid.Laid.{none, field}
 use Rattle.format.specs.Laid.Ending.{nothing-left, unparsed-left, raw-or-tlvs}
 use Rattle.format.specs.Lists.{from, containers2, containers3, containers, rawOrTlvs, unparsed, holds}
 use Rattle.format.proofs.Unique.{span}
 use Rattle.format.proofs.Rules.{inside}
 use Rattle.format.proofs.Prefix.{fits-inside}
-use Rattle.format.proofs.Laid.{allHave, AllIn, cut-inside, fixed-length, fixed-end, after-from, widen, laid-fields, laid-append, laid-container, laid-cond, laid-listing, laid-listing-if, weaken, only-more}
-
--- What is inside a link of version 2, and inside a prefix of version 3.
-abbrev pub linkInside : List ℕ → ℕ → Span → List Entry
-linkInside b o s = v2.linkFields b o (s .at) ++ listingIfAny 69 (v2.linkTos b o) o (s .at + 12) (v2.linkTosSpans b (s .at))
-
-abbrev pub prefixInside : Bool → List ℕ → ℕ → Span → List Entry
-prefixInside m b o s =
-    u8At 80 b o (s .at) ∷ u8At 81 b o (s .at + 1) ∷ (cond m (u16At 82 b o (s .at + 2) ∷ []) [] ++ (ip6At 83 b o (s .at + 4) (s .len - 4) ∷ []))
+use Rattle.format.proofs.Rows.{Within, rows-laid, rows-first}
+use Rattle.format.proofs.Laid.{cut-inside, fixed-length, fixed-end, after-from, widen, laid-append, laid-container, laid-cond, laid-listing, laid-listing-if, weaken, only-more}
 
 -- Headers, and the items of lists, by the containers c and the ranges r that are allowed.
 module _ {c r : List ℕ} (b : List ℕ) (o : ℕ) where
   pub laid-header2 : Laid (only c r) o (o + 20) (headerEntries2 b o)
   unfolding headerEntries2
   laid-header2 =
-      laid-append (laid-fields (identityEntries2 b o) refl (omega arith))
-      (laid-append (laid-fields (instanceEntries 5 b o) refl (omega arith))
-      (laid-cond (isOpaque (getD b 3 0)) {xs = opaqueEntries b o} (laid-fields _ refl (omega arith)) none))
+      laid-append (rows-first b o 20 identityRows2 (omega arith))
+      (laid-append (rows-first b o 20 (instanceRows 5) (omega arith))
+      (laid-cond (isOpaque (getD b 3 0)) (rows-first b o 20 opaqueRows (omega arith)) none))
 
   pub laid-header3 : Laid (only c r) o (o + 20) (headerEntries3 b o)
   unfolding headerEntries3
-  laid-header3 = laid-fields _ refl (omega arith)
+  laid-header3 = laid-append (rows-first b o 20 identityRows3 (omega arith)) (rows-first b o 20 (instanceRows 4) (omega arith))
 
   laid-attached : (p n : ℕ) → fixedRule 4 b p ≡ some n → Laid (only c r) (o + p) (o + p + n) (attachedRouter b o (span p n))
   unfolding attachedRouter
-  laid-attached p n e = let q = fixed-length 4 b p n e in laid-fields _ refl (omega arith)
+  laid-attached p n e = let q = fixed-length 4 b p n e in rows-laid b o p 4 attachedRouterRows (omega arith) (omega arith) (omega arith)
 
-  pub laid-prefix-inside : (m : Bool) (s : Span) → Laid (only c r) (o + s .at) (o + (s .at + 4) + (s .len - 4)) (prefixInside m b o s)
+  -- an object of one length around the fields of a table
+  laid-object : (i m : ℕ) (t : Layout) → Within m t → among c i ≡ true → (p n : ℕ) → fixedRule m b p ≡ some n
+      → Laid (only c r) (o + p) (o + p + n) (container i (o + p) (o + p + m) (entriesAt t b o p))
+  laid-object i m t w h p n e =
+      let q = fixed-length m b p n e in
+      laid-container _ _ _ h (omega arith) (omega arith) (omega arith) (rows-laid b o p m t w (omega arith) (omega arith))
+
+  pub laid-prefix-inside : (m : Bool) (s : Span) → Laid (only c r) (o + s .at) (o + (s .at + 4) + (s .len - 4)) (v3.prefixInside m b o s)
   laid-prefix-inside m s =
-      laid-append {xs = u8At 80 b o (s .at) ∷ u8At 81 b o (s .at + 1) ∷ []} (laid-fields _ refl (omega arith))
-      (laid-append (laid-cond m {xs = u16At 82 b o (s .at + 2) ∷ []} (laid-fields _ refl (omega arith)) none)
-      (laid-fields _ refl (omega arith)))
+      laid-append (rows-laid b o (s .at) 4 v3.prefixRows (omega arith) (omega arith) (omega arith))
+      (laid-append (laid-cond m (rows-laid b o (s .at) 4 v3.prefixMetricRows (omega arith) (omega arith) (omega arith)) none)
+      (rows-laid b o (s .at) (4 + (s .len - 4)) (v3.prefixAddressRows (s .len - 4)) (omega arith) (omega arith) (omega arith)))
 
   module _ (h : among c 97 ≡ true) where
     laid-link-tos : (p n : ℕ) → fixedRule 4 b p ≡ some n → Laid (only c r) (o + p) (o + p + n) (v2.linkTos b o (span p n))
     unfolding v2.linkTos
-    laid-link-tos p n e =
-        let q = fixed-length 4 b p n e in
-        laid-container _ _ _ h (omega arith) (omega arith) (omega arith) (laid-fields _ refl (omega arith))
+    laid-link-tos = laid-object 97 4 v2.linkTosRows (omega arith) h
 
     laid-summary-tos : (p n : ℕ) → fixedRule 4 b p ≡ some n → Laid (only c r) (o + p) (o + p + n) (v2.summaryTos b o (span p n))
     unfolding v2.summaryTos
-    laid-summary-tos p n e =
-        let q = fixed-length 4 b p n e in
-        laid-container _ _ _ h (omega arith) (omega arith) (omega arith) (laid-fields _ refl (omega arith))
+    laid-summary-tos = laid-object 97 4 v2.summaryTosRows (omega arith) h
 
     laid-external-tos : (p n : ℕ) → fixedRule 12 b p ≡ some n → Laid (only c r) (o + p) (o + p + n) (v2.externalTos b o (span p n))
     unfolding v2.externalTos
-    laid-external-tos p n e =
-        let q = fixed-length 12 b p n e in
-        laid-container _ _ _ h (omega arith) (omega arith) (omega arith) (laid-fields _ refl (omega arith))
+    laid-external-tos = laid-object 97 12 v2.externalTosRows (omega arith) h
 
     -- a link up to the end of its TOS metrics, whether or not it stands in the body
-    pub laid-link-inside : among c 69 ≡ true → (s : Span) → Laid (only c r) (o + s .at) (o + after (s .at + 12) (v2.linkTosSpans b (s .at))) (linkInside b o s)
+    pub laid-link-inside : among c 69 ≡ true → (s : Span) → Laid (only c r) (o + s .at) (o + after (s .at + 12) (v2.linkTosSpans b (s .at))) (v2.linkInside b o s)
     laid-link-inside k s =
         let a = after-from (v2.linkTosSpans b (s .at)) (s .at + 12) in
-        laid-append (laid-fields (v2.linkFields b o (s .at)) refl (omega arith))
+        laid-append (rows-laid b o (s .at) 12 v2.linkRows (omega arith) (omega arith) (omega arith))
         (laid-listing-if _ _ _ _ _ _ _ (λ t e. k) (omega arith) (omega arith) laid-link-tos)
 
     -- a link that stands has room for its TOS metrics
@@ -103,9 +97,7 @@ module _ {c r : List ℕ} (b : List ℕ) (o : ℕ) where
 
   laid-link3 : among c 96 ≡ true → (p n : ℕ) → fixedRule 16 b p ≡ some n → Laid (only c r) (o + p) (o + p + n) (v3.link b o (span p n))
   unfolding v3.link
-  laid-link3 h p n e =
-      let q = fixed-length 16 b p n e in
-      laid-container _ _ _ h (omega arith) (omega arith) (omega arith) (laid-fields _ refl (omega arith))
+  laid-link3 = laid-object 96 16 v3.linkRows (omega arith)
 
 -- A body, b, at the place o: what is decoded lies before the place where it ends, which lies in the body, and has no kind 8
 -- entry but TLVs, which take the rest of the body. The second body is the same one at any other place: how much of it is
@@ -143,21 +135,21 @@ module _ {tlvs : ℕ} {b : List ℕ} {o : ℕ} where
       go true e = is-raw
       go false e = h (ltb-false (length b) n e)
 
-  -- a row of fields up to a place, and the array of a list from there on
-  module _ {c : List ℕ} {es′ : List Entry} (fields : List Entry) (i p : ℕ) (f : Span → List Entry) (least : ℕ) (declared : Rule) (k : ℕ)
-      (t : allHave (only c []) fields ≡ true) (in-front : AllIn o (o + p) fields) (g : among c i ≡ true) (h : p ≤ length b)
+  -- the fields of a table up to a place, and the array of a list from there on
+  module _ {c : List ℕ} {es′ : List Entry} (t : Layout) (i p : ℕ) (f : Span → List Entry) (least : ℕ) (declared : Rule) (k : ℕ)
+      (in-front : Within p t) (g : among c i ≡ true) (h : p ≤ length b)
       (items : (q n : ℕ) → standing least declared b q ≡ some n → Laid (only c []) (o + q) (o + q + n) (f (span q n))) where
-    is-listed : let ss = cut (standing least declared) b k p in BodyLaid tlvs b o c (decoded (fields ++ listing i f o p ss) (after p ss)) (decoded es′ (after p ss))
+    is-listed : let ss = cut (standing least declared) b k p in BodyLaid tlvs b o c (decoded (entriesAt t b o 0 ++ listing i f o p ss) (after p ss)) (decoded es′ (after p ss))
     is-listed =
         let a = after-from (cut (standing least declared) b k p) p in
         is (cut-inside least declared b k p h)
-        (laid-append (widen (omega arith) (omega arith) (laid-fields fields t in-front)) (laid-listing i o p f (standing least declared) b k (λ s e. g) (omega arith) (omega arith) items))
+        (laid-append (rows-laid b o 0 p t in-front (omega arith) (omega arith)) (laid-listing i o p f (standing least declared) b k (λ s e. g) (omega arith) (omega arith) items))
 
-    is-listed-if : let ss = cut (standing least declared) b k p in BodyLaid tlvs b o c (decoded (fields ++ listingIfAny i f o p ss) (after p ss)) (decoded es′ (after p ss))
+    is-listed-if : let ss = cut (standing least declared) b k p in BodyLaid tlvs b o c (decoded (entriesAt t b o 0 ++ listingIfAny i f o p ss) (after p ss)) (decoded es′ (after p ss))
     is-listed-if =
         let a = after-from (cut (standing least declared) b k p) p in
         is (cut-inside least declared b k p h)
-        (laid-append (widen (omega arith) (omega arith) (laid-fields fields t in-front)) (laid-listing-if i o p f (standing least declared) b k (λ s e. g) (omega arith) (omega arith) items))
+        (laid-append (rows-laid b o 0 p t in-front (omega arith) (omega arith)) (laid-listing-if i o p f (standing least declared) b k (λ s e. g) (omega arith) (omega arith) items))
 
 -- The bodies of version 2, at the places o and q.
 module _ (b : List ℕ) (o q : ℕ) where
@@ -166,19 +158,19 @@ module _ (b : List ℕ) (o q : ℕ) where
 
   router2 : Laid2 (from 4 (length b) (16 ∷ 96 ∷ 69 ∷ 97 ∷ [])) v2.routerLsa2
   unfolding v2.routerLsa2
-  router2 = at-least _ (λ h. is-listed (v2.routerFlags b o ++ (u16At 15 b o 2 ∷ [])) _ _ _ _ _ _ refl (omega arith) refl h (laid-link2 b o refl refl refl))
+  router2 = at-least _ (λ h. is-listed v2.routerRows _ _ _ _ _ _ (omega arith) refl h (laid-link2 b o refl refl refl))
 
   network2 : Laid2 (from 4 (length b) (18 ∷ [])) v2.networkLsa2
   unfolding v2.networkLsa2 whole
-  network2 = at-least _ (λ h. is-listed (ip4At 17 b o 0 ∷ []) _ _ _ _ _ _ refl (omega arith) refl h (laid-attached b o))
+  network2 = at-least _ (λ h. is-listed v2.networkRows _ _ _ _ _ _ (omega arith) refl h (laid-attached b o))
 
   summary : Laid2 (from 8 (length b) (20 ∷ 97 ∷ [])) v2.summaryLsa
   unfolding v2.summaryLsa whole
-  summary = at-least _ (λ h. is-listed-if (ip4At 17 b o 0 ∷ metric24At 19 b o 5 ∷ []) _ _ _ _ _ _ refl (omega arith) refl h (laid-summary-tos b o refl))
+  summary = at-least _ (λ h. is-listed-if v2.summaryRows _ _ _ _ _ _ (omega arith) refl h (laid-summary-tos b o refl))
 
   external2 : Laid2 (from 16 (length b) (20 ∷ 97 ∷ [])) v2.externalLsa2
   unfolding v2.externalLsa2 whole
-  external2 = at-least _ (λ h. is-listed-if (v2.externalFields b o) _ _ _ _ _ _ refl (omega arith) refl h (laid-external-tos b o refl))
+  external2 = at-least _ (λ h. is-listed-if v2.externalRows _ _ _ _ _ _ (omega arith) refl h (laid-external-tos b o refl))
 
   opaque : {c : List ℕ} (u : ℕ) → Laid2 c (v2.opaqueLsa u)
   unfolding v2.opaqueLsa
@@ -204,61 +196,57 @@ module _ (b : List ℕ) (o q : ℕ) where
 
   router3 : Laid3 (from 4 (length b) (15 ∷ 96 ∷ [])) v3.routerLsa3
   unfolding v3.routerLsa3 whole
-  router3 = at-least _ (λ h. is-listed (v3.routerFlags b o ++ (v3.options b o ∷ [])) _ _ _ _ _ _ refl (omega arith) refl h (laid-link3 b o refl))
+  router3 = at-least _ (λ h. is-listed v3.routerRows _ _ _ _ _ _ (omega arith) refl h (laid-link3 b o refl))
 
   network3 : Laid3 (from 4 (length b) (16 ∷ [])) v3.networkLsa3
   unfolding v3.networkLsa3 whole
-  network3 = at-least _ (λ h. is-listed (v3.options b o ∷ []) _ _ _ _ _ _ refl (omega arith) refl h (laid-attached b o))
+  network3 = at-least _ (λ h. is-listed v3.networkRows _ _ _ _ _ _ (omega arith) refl h (laid-attached b o))
 
   inter-area-prefix : {c : List ℕ} → Laid3 c v3.interAreaPrefixLsa
   unfolding v3.interAreaPrefixLsa
-  inter-area-prefix {c} = go (v3.prefixFits b (getD b 4 0) 8) refl
+  inter-area-prefix {c} = go (v3.fixedPrefixFits b) refl
     where
-      fields : ℕ → ℕ → List Entry
-      fields p n = metric24At 17 b p 1 ∷ u8At 18 b p 4 ∷ u8At 19 b p 5 ∷ ip6At 20 b p 8 n ∷ []
-
-      go : (x : Option ℕ) → v3.prefixFits b (getD b 4 0) 8 ≡ x → BodyLaid 32 b o c
-          (elim x [ nothing ↦ raw | some n ↦ decoded (fields o n) (8 + n) ])
-          (elim x [ nothing ↦ raw | some n ↦ decoded (fields q n) (8 + n) ])
+      go : (x : Option ℕ) → v3.fixedPrefixFits b ≡ x → BodyLaid 32 b o c
+          (elim x [ nothing ↦ raw | some n ↦ decoded (entriesAt (v3.interAreaPrefixRows n) b o 0) (8 + n) ])
+          (elim x [ nothing ↦ raw | some n ↦ decoded (entriesAt (v3.interAreaPrefixRows n) b q 0) (8 + n) ])
       go nothing e = is-raw
-      go (some n) e = is (fits-inside b (getD b 4 0) 8 n e .0) (laid-fields (fields o n) refl (omega arith))
+      go (some n) e = is (fits-inside b (getD b 4 0) 8 n e .0) (rows-first b o (8 + n) (v3.interAreaPrefixRows n) (omega arith))
 
   inter-area-router : {c : List ℕ} → Laid3 c v3.interAreaRouterLsa
   unfolding v3.interAreaRouterLsa
-  inter-area-router = raw-below _ (λ h. is h (laid-fields _ refl (omega arith)))
+  inter-area-router = raw-below _ (λ h. is h (rows-first b o 12 v3.interAreaRouterRows (omega arith)))
 
   link-lsa : Laid3 (from 24 (length b) (29 ∷ 97 ∷ [])) v3.linkLsa
   unfolding v3.linkLsa
-  link-lsa = at-least _ (λ h. is-listed (u8At 26 b o 0 ∷ v3.options b o ∷ ip6At 27 b o 4 16 ∷ u32At 28 b o 20 ∷ []) _ _ _ _ _ _ refl (omega arith) refl h (laid-prefix b o refl false))
+  link-lsa = at-least _ (λ h. is-listed v3.linkLsaRows _ _ _ _ _ _ (omega arith) refl h (laid-prefix b o refl false))
 
   intra-area-prefix : Laid3 (from 12 (length b) (29 ∷ 97 ∷ [])) v3.intraAreaPrefixLsa
   unfolding v3.intraAreaPrefixLsa
-  intra-area-prefix = at-least _ (λ h. is-listed (wide16At 28 b o 0 ∷ v3.references b o) _ _ _ _ _ _ refl (omega arith) refl h (laid-prefix b o refl true))
+  intra-area-prefix = at-least _ (λ h. is-listed v3.intraAreaPrefixRows _ _ _ _ _ _ (omega arith) refl h (laid-prefix b o refl true))
 
-  tlv-lsa : {c : List ℕ} (n : ℕ) (es es′ : List Entry) → allHave (only c []) es ≡ true → AllIn o (o + n) es → BodyLaid 32 b o c (v3.tlvLsa n es b o) (v3.tlvLsa n es′ b q)
+  tlv-lsa : {c : List ℕ} (n : ℕ) (t : Layout) → Within n t → BodyLaid 32 b o c (v3.tlvLsa n (entriesAt t b o 0) b o) (v3.tlvLsa n (entriesAt t b q 0) b q)
   unfolding v3.tlvLsa
-  tlv-lsa n es es′ t l = raw-below _ (λ h. is-tlvs (o + n) (omega arith) (omega arith) (laid-fields es t l))
+  tlv-lsa n t w = raw-below _ (λ h. is-tlvs (o + n) (omega arith) (omega arith) (rows-first b o n t w))
 
   external3 : {c : List ℕ} → Laid3 c v3.externalLsa3
   unfolding v3.externalLsa3
-  external3 {c} = go (v3.prefixFits b (getD b 4 0) 8)
+  external3 {c} = go (v3.fixedPrefixFits b)
     where
       fields : ℕ → ℕ → List Entry
       fields p n = v3.externalFlags b p ++ (v3.externalPrefix b p n ++ v3.externalOptional b p n)
 
-      -- a field of n bytes that is there where the test says so
-      optional : (t : Bool) (x : Entry) (p n : ℕ) → allHave (only c []) (x ∷ []) ≡ true → start x ≡ o + p → end x ≡ o + p + n → (hi : ℕ) → p + cond t n 0 ≤ hi
-          → Laid (only c []) o (o + hi) (cond t (x ∷ []) [])
-      optional true x p n h s e hi l = laid-fields (x ∷ []) h (omega arith)
-      optional false x p n h s e hi l = none
+      -- n bytes that are there where the test says so
+      optional : (t : Bool) (n : ℕ) (rows : Layout) (p hi : ℕ) → Within n rows → p + cond t n 0 ≤ hi → Laid (only c []) o (o + hi) (cond t (entriesAt rows b o p) [])
+      optional true n rows p hi w l = rows-laid b o p n rows w (omega arith) (omega arith)
+      optional false n rows p hi w l = none
 
       laid : (n : ℕ) → Laid (only c []) o (o + v3.externalEnd b n) (fields o n)
       laid n =
-          laid-append (laid-fields (v3.externalFlags b o) refl (omega arith))
-          (laid-append (laid-fields (v3.externalPrefix b o n) refl (omega arith))
-          (laid-append (optional (v3.hasForwarding b) (ip6At 23 b o (v3.forwardingPlace n) 16) (v3.forwardingPlace n) 16 refl refl refl (v3.externalEnd b n) (omega arith))
-          (laid-append (optional (v3.hasTag b) (u32At 24 b o (v3.tagPlace b n)) (v3.tagPlace b n) 4 refl refl refl (v3.externalEnd b n) (omega arith))
-          (optional (v3.hasReference b) (u32At 25 b o (v3.referencePlace b n)) (v3.referencePlace b n) 4 refl refl refl (v3.externalEnd b n) (omega arith)))))
+          laid-append (rows-first b o (v3.externalEnd b n) v3.externalFlagRows (omega arith))
+          (laid-append (rows-first b o (v3.externalEnd b n) (v3.externalPrefixRows n) (omega arith))
+          (laid-append (optional (v3.hasForwarding b) 16 v3.forwardingRows _ _ (omega arith) (omega arith))
+          (laid-append (optional (v3.hasTag b) 4 v3.tagRows _ _ (omega arith) (omega arith))
+          (optional (v3.hasReference b) 4 v3.referencedRows _ _ (omega arith) (omega arith)))))
 
       go : (x : Option ℕ) → BodyLaid 32 b o c
           (elim x [ nothing ↦ raw | some n ↦ cond (ltb (length b) (v3.externalEnd b n)) raw (decoded (fields o n) (v3.externalEnd b n)) ])
@@ -277,16 +265,16 @@ module _ (b : List ℕ) (o q : ℕ) where
       (same (eqb f 7) external3
       (choice (eqb f 8) link-lsa
       (choice (eqb f 9) intra-area-prefix
-      (same (eqb f 12) (tlv-lsa 0 [] [] refl (omega arith))
-      (same (eqb f 33) (tlv-lsa 4 (v3.routerFlags b o ++ (v3.options b o ∷ [])) _ refl (omega arith))
-      (same (eqb f 34) (tlv-lsa 4 (v3.options b o ∷ []) _ refl (omega arith))
-      (same (eqb f 35) (tlv-lsa 0 [] [] refl (omega arith))
-      (same (eqb f 36) (tlv-lsa 0 [] [] refl (omega arith))
-      (same (eqb f 37) (tlv-lsa 0 [] [] refl (omega arith))
-      (same (eqb f 39) (tlv-lsa 0 [] [] refl (omega arith))
-      (same (eqb f 40) (tlv-lsa 4 (u8At 26 b o 0 ∷ v3.options b o ∷ []) _ refl (omega arith))
-      (same (eqb f 41) (tlv-lsa 12 (v3.references b o) _ refl (omega arith))
-      (same (eqb f 42) (tlv-lsa 0 [] [] refl (omega arith)) is-raw)))))))))))))))))
+      (same (eqb f 12) (tlv-lsa 0 [] (omega arith))
+      (same (eqb f 33) (tlv-lsa 4 v3.routerRows (omega arith))
+      (same (eqb f 34) (tlv-lsa 4 v3.networkRows (omega arith))
+      (same (eqb f 35) (tlv-lsa 0 [] (omega arith))
+      (same (eqb f 36) (tlv-lsa 0 [] (omega arith))
+      (same (eqb f 37) (tlv-lsa 0 [] (omega arith))
+      (same (eqb f 39) (tlv-lsa 0 [] (omega arith))
+      (same (eqb f 40) (tlv-lsa 4 v3.eLinkRows (omega arith))
+      (same (eqb f 41) (tlv-lsa 12 v3.referenceRows (omega arith))
+      (same (eqb f 42) (tlv-lsa 0 [] (omega arith)) is-raw)))))))))))))))))
 
 -- A body's entries with what is left of it, and its tail.
 body-ends : {tlvs : ℕ} {b : List ℕ} {o : ℕ} {c : List ℕ} {x x′ : Body} (w : List ℕ) (r u : ℕ) → among w tlvs ≡ true → among w r ≡ true → BodyLaid tlvs b o c x x′
@@ -339,8 +327,8 @@ ending-laid {c} {w} {u} {lo} {hi} {tail} {es} e = go e
 
     go : Ending c w u lo hi es tail → Laid (only c (u ∷ w)) lo hi es
     go (nothing-left l t) = fewer (omega arith) l
-    go (unparsed-left front s e l f g t) = rw e (laid-append (fewer (omega arith) l) (laid-fields (bytes u s hi ∷ []) (rw (eq-eqb u u refl)) (omega arith)))
-    go (raw-or-tlvs front i s k e l f g t) = rw e (laid-append (fewer g l) (laid-fields (bytes i s hi ∷ []) (rw (or-else (eqb i u) k)) (omega arith)))
+    go (unparsed-left front s e l f g t) = rw e (laid-append (fewer (omega arith) l) (field refl (rw (eq-eqb u u refl)) (omega arith) (omega arith) (omega arith) none))
+    go (raw-or-tlvs front i s k e l f g t) = rw e (laid-append (fewer g l) (field refl (rw (or-else (eqb i u) k)) (omega arith) (omega arith) (omega arith) none))
 
 -- The entries of any LSA, to the end of its header at least; and of one that has its header.
 pub laid-any : (v : ℕ) (d : List ℕ) (o : ℕ) → Laid (holds v d) o (o + 20 + length (drop 20 d)) (lsaEntries v d o)

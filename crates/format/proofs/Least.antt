@@ -45,7 +45,7 @@ raw2 t u b o = simp (raw-cond, short-cond, itself, either, never)
 
 -- A body with a fixed prefix, and `more` bytes after it.
 with-prefix : (b : List ℕ) (more : ℕ) → (x : ℕ → Body) → ((n : ℕ) → n ≡ 4 * ((getD b 4 0 + 31) / 32) → 8 + n ≤ length b → isRaw (x n) ≡ ltb (length b) (8 + n + more))
-    → isRaw (elim (v3.prefixFits b (getD b 4 0) 8) [ none ↦ raw | some n ↦ x n ]) ≡ tooShort (withPrefix (getD b 4 0) more) (length b)
+    → isRaw (elim (v3.fixedPrefixFits b) [ none ↦ raw | some n ↦ x n ]) ≡ tooShort (withPrefix (getD b 4 0) more) (length b)
 unfolding v3.prefixFits octets
 with-prefix b more x h = go (leb (getD b 4 0) 128) refl
   where
@@ -54,7 +54,7 @@ with-prefix b more x h = go (leb (getD b 4 0) 128) refl
     fits m e true q = rw (h m e (leb-true (8 + m) (length b) q)) (ap (λ (n : ℕ). ltb (length b) (8 + n + more)) e)
     fits m e false q = let l = leb-false (8 + m) (length b) q in sym (lt-ltb (length b) (8 + 4 * ((getD b 4 0 + 31) / 32) + more) (omega arith))
 
-    go : (t : Bool) → leb (getD b 4 0) 128 ≡ t → isRaw (elim (v3.prefixFits b (getD b 4 0) 8) [ none ↦ raw | some n ↦ x n ]) ≡ tooShort (withPrefix (getD b 4 0) more) (length b)
+    go : (t : Bool) → leb (getD b 4 0) 128 ≡ t → isRaw (elim (v3.fixedPrefixFits b) [ none ↦ raw | some n ↦ x n ]) ≡ tooShort (withPrefix (getD b 4 0) more) (length b)
     go true e = let l = leb-true (getD b 4 0) 128 e in rw (e, le-ltb 128 (getD b 4 0) l) (fits ((getD b 4 0 + 31) / 32 * 4) (omega arith) (leb (8 + (getD b 4 0 + 31) / 32 * 4) (length b)) refl)
     go false e = let l = leb-false (getD b 4 0) 128 e in rw (e, lt-ltb 128 (getD b 4 0) l)
 

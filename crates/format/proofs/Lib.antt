@@ -24,6 +24,7 @@ pub mod Examples
 pub mod Laid
 pub mod LaidLsa
 pub mod Nested
+pub mod Rows
 pub mod NestedLsa
 pub mod Shown
 pub mod Walks

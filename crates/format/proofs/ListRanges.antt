@@ -10,7 +10,8 @@ use lib.ListN.{length, getD, drop}
 use lib.Dec.{ltb, eqb}
 use borrow.Author.Tests.{ltb-false, eqb-true, ne-eqb, lt-ltb, le-ltb}
 use Rattle.format.specs.Bytes.{be16At, part}
-use Rattle.format.specs.Strip.{Entry, container, u8At, u16At, u32At, ip4At}
+use Rattle.format.specs.Strip.{Entry, container}
+use Rattle.format.specs.Layout.{entriesAt}
 use Rattle.format.specs.Cut.{Span, Rule, cut, after, standing, fixedRule}
 use Rattle.format.specs.Header.{headerEntries3}
 use Rattle.format.specs.Body.{listing, leftover, whole, bodyEntries, bodyTail}
@@ -22,7 +23,8 @@ use Rattle.format.specs.Shown.{own, Listed}
 use Rattle.format.specs.Laid.{among}
 use Rattle.format.specs.Lists.{containers, rawOrTlvs, unparsed, linkRanges, prefixRanges}
 use Rattle.format.proofs.Unique.{span, cut-none, cut-some}
-use Rattle.format.proofs.Nested.{nested-fields, nested-append, nested-leftover, absent, ranges-append, ranges-container, ranges-flat}
+use Rattle.format.proofs.Nested.{nested-append, nested-leftover, absent, ranges-append, ranges-container, ranges-flat}
+use Rattle.format.proofs.Rows.{rows-nested}
 use Rattle.format.proofs.NestedLsa.{nested-header3}
 use Rattle.format.proofs.Shown.{shows, listed, lsa-shows}
 use Rattle.format.proofs.CutInto.{cut-into, fixed-stands-at, link-stands, prefix-stands}
@@ -50,7 +52,7 @@ flat-same f g h (s ∷ ss) = rw (h s, flat-same f g h ss)
 
 -- What is inside a link of version 3, which has the length of its span wherever it stands.
 abbrev inLink : List ℕ → ℕ → Span → List Entry
-inLink b o s = u8At 64 b o (s .at) ∷ u16At 65 b o (s .at + 2) ∷ u32At 66 b o (s .at + 4) ∷ u32At 67 b o (s .at + 8) ∷ ip4At 68 b o (s .at + 12) ∷ []
+inLink b o s = v3.linkFields b o (s .at)
 
 abbrev boxed : List ℕ → ℕ → Span → List Entry
 boxed b o s = container 96 (o + s .at) (o + s .at + s .len) (inLink b o s)
@@ -71,11 +73,11 @@ links3-shown d o h l =
     let q = o + 20 in
     let k = (length b - 4) / 16 in
     let m = le-ltb (length b) 4 l in
-    let fixed = v3.routerFlags b q ++ (v3.options b q ∷ []) in
+    let fixed = entriesAt v3.routerRows b q 0 in
     let ends = cut-inside 16 _ b k 4 l in
-    listed (shows (fixedRule 16) b (FixedAt 16 b) (fixed-stands-at 16 b) k 4 ends q 15 96 33 (inLink b q) no-container refl refl refl refl (λ s. nested-fields no-container (inLink b q s) refl)
+    listed (shows (fixedRule 16) b (FixedAt 16 b) (fixed-stands-at 16 b) k 4 ends q 15 96 33 (inLink b q) no-container refl refl refl refl (λ s. rows-nested b q (s .at) no-container v3.linkRows)
     (headerEntries3 d o ++ fixed)
-    (nested-append no-container (nested-header3 no-container d o) (nested-fields no-container fixed refl))
+    (nested-append no-container (nested-header3 no-container d o) (rows-nested b q 0 no-container v3.routerRows))
     _ _
     (rw (h, m, flat-cut (fixedRule 16) b (v3.link b q) (boxed b q) (by-length b q) k 4) (sym (append-assoc (headerEntries3 d o) fixed _)))
     (rw (h, m) refl))

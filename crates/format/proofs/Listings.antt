@@ -1,8 +1,9 @@
--- What the program prints, whole, as quoted lines; and an update and header lists whole, at an offset. The entries are those that the
--- reference pushes (host/oracle/tests/proved.rs compares them).
+-- What the program prints, whole, as quoted lines; and an update and header lists whole, at an offset. The entries are
+-- those that the reference pushes (host/oracle/tests/proved.rs compares them).
 use Prim.Native.Nat.{ℕ}
+use Prim.Native.String.{String}
 use mathlib.Core.Path.{_≡_, refl}
-use mathlib.Core.List.{List, [], _∷_, flatMap}
+use mathlib.Core.List.{List, [], _∷_, map, flatMap}
 use lib.ListN.{replicate}
 use Rattle.format.specs.Strip.{code, encode, container}
 use Rattle.format.specs.Strip.Entry.{opens, closes, u8, u16, u32, ip4, ip6, bytes}
@@ -16,6 +17,8 @@ use Rattle.format.specs.Walks.{answer, answerOf, unless, headersOf, upda
 use Rattle.format.specs.Walks.Outcome.{accepted}
 use Rattle.format.specs.Print.{programOf, digits, hex, line, firstLine, printed}
 use Rattle.format.proofs.Text.{lines}
+use Rattle.format.proofs.Fields.{counted, header2, header3}
+use Rattle.format.proofs.Fields.Byte.{but}
 
 -- An update of version 3 with a count of 5: an Intra-Area-Prefix-LSA with two prefixes, a Network-LSA, and 3 bytes more.
 abbrev pub update3 : List ℕ
@@ -47,104 +50,115 @@ update3 =
     0xff ∷ 0xfe ∷ 0xfd ∷
     []
 
+-- An input, and the lines that the program prints for it.
+pub record Listing : Type 0 where
+  pub input : List ℕ
+  pub output : List String
+
+abbrev pub prints : List ℕ → List String → Listing
+prints i ls = record { input = i; output = ls }
+
+abbrev pub printing : List Listing
+printing =
+    -- The worked listing of the requirements: one header of version 2 and a byte more.
+    prints (
+    0x02 ∷ 0x00 ∷
+    0x00 ∷ 0x01 ∷ 0x02 ∷ 0x01 ∷
+    0x0a ∷ 0x00 ∷ 0x00 ∷ 0x01 ∷
+    0x0a ∷ 0x00 ∷ 0x00 ∷ 0x01 ∷
+    0x80 ∷ 0x00 ∷ 0x00 ∷ 0x01 ∷
+    0x12 ∷ 0x34 ∷ 0x00 ∷ 0x18 ∷
+    0xff ∷
+    []) (
+    "ok 1 1 132" ∷
+    "open 114 0 20" ∷
+    "open 112 0 20" ∷
+    "u16 0 0 2 1" ∷
+    "u8 1 2 3 2" ∷
+    "u8 2 3 4 1" ∷
+    "ip4 3 4 8 10.0.0.1" ∷
+    "ip4 4 8 12 10.0.0.1" ∷
+    "u32 5 12 16 2147483649" ∷
+    "u16 6 16 18 4660" ∷
+    "u16 7 18 20 24" ∷
+    "close" ∷
+    "close" ∷
+    "bytes 25 20 21" ∷
+    []) ∷
+    -- The update of version 3: 2 records, of which the first is cut into prefixes, and a tail of 3 bytes.
+    prints (0x03 ∷ 0x01 ∷ update3) (
+    "ok 2 3 469" ∷
+    "open 114 4 96" ∷
+    "open 113 4 68" ∷
+    "u16 0 4 6 1" ∷
+    "u16 1 6 8 8201" ∷
+    "u32 2 8 12 7" ∷
+    "ip4 3 12 16 10.0.0.1" ∷
+    "u32 4 16 20 2147483650" ∷
+    "u16 5 20 22 43981" ∷
+    "u16 6 22 24 64" ∷
+    "u32 28 24 26 2" ∷
+    "u16 22 26 28 8193" ∷
+    "u32 25 28 32 0" ∷
+    "ip4 30 32 36 10.0.0.2" ∷
+    "open 29 36 68" ∷
+    "open 97 36 48" ∷
+    "u8 80 36 37 64" ∷
+    "u8 81 37 38 0" ∷
+    "u16 82 38 40 16" ∷
+    "ip6 83 40 48 20010db8000100020000000000000000" ∷
+    "close" ∷
+    "open 97 48 68" ∷
+    "u8 80 48 49 128" ∷
+    "u8 81 49 50 2" ∷
+    "u16 82 50 52 1000" ∷
+    "ip6 83 52 68 fe8000000000000002005efffe0a0b0c" ∷
+    "close" ∷
+    "close" ∷
+    "close" ∷
+    "open 113 68 96" ∷
+    "u16 0 68 70 3600" ∷
+    "u16 1 70 72 8194" ∷
+    "u32 2 72 76 5" ∷
+    "ip4 3 76 80 10.0.0.2" ∷
+    "u32 4 80 84 2147483651" ∷
+    "u16 5 84 86 17185" ∷
+    "u16 6 86 88 28" ∷
+    "u32 14 89 92 51" ∷
+    "open 16 92 96" ∷
+    "ip4 98 92 96 10.0.0.3" ∷
+    "close" ∷
+    "close" ∷
+    "close" ∷
+    "bytes 33 96 99" ∷
+    []) ∷
+    -- A single LSA of version 2, opaque and without a body.
+    prints (0x02 ∷ 0x02 ∷ counted 20 (but 3 0x0b ∷ but 4 0x07 ∷ but 18 0x00 ∷ [])) (
+    "ok 1 0 135" ∷
+    "u16 0 0 2 258" ∷
+    "u8 1 2 3 3" ∷
+    "u8 2 3 4 11" ∷
+    "ip4 3 4 8 7.6.7.8" ∷
+    "ip4 4 8 12 9.10.11.12" ∷
+    "u32 5 12 16 219025168" ∷
+    "u16 6 16 18 4370" ∷
+    "u16 7 18 20 20" ∷
+    "u8 8 4 5 7" ∷
+    "u32 9 5 8 395016" ∷
+    "bytes 24 20 20" ∷
+    []) ∷
+    -- A refused input prints one line.
+    prints [] ("refused 4 0" ∷ []) ∷  -- no version
+    prints (2 ∷ []) ("refused 4 0" ∷ []) ∷  -- no walk
+    prints (2 ∷ 3 ∷ []) ("refused 12 0" ∷ []) ∷  -- no such walk
+    prints (4 ∷ 0 ∷ []) ("refused 1 0" ∷ []) ∷  -- a version that is none
+    prints (2 ∷ 1 ∷ replicate 3 0) ("refused 4 0" ∷ []) ∷  -- an update of 3 bytes
+    prints (3 ∷ 2 ∷ replicate 19 0) ("refused 4 0" ∷ []) ∷  -- an LSA of 19
+    prints (2 ∷ 0 ∷ replicate 2049 0) ("refused 2 0" ∷ []) ∷  -- too much input
+    []
+
 pub record Listings : Type 0 where
-  -- The worked listing of the requirements: one header of version 2 and a byte more.
-  pub worked : printed (
-      0x02 ∷ 0x00 ∷
-      0x00 ∷ 0x01 ∷ 0x02 ∷ 0x01 ∷
-      0x0a ∷ 0x00 ∷ 0x00 ∷ 0x01 ∷
-      0x0a ∷ 0x00 ∷ 0x00 ∷ 0x01 ∷
-      0x80 ∷ 0x00 ∷ 0x00 ∷ 0x01 ∷
-      0x12 ∷ 0x34 ∷ 0x00 ∷ 0x18 ∷
-      0xff ∷
-      [])
-      ≡ lines (
-      "ok 1 1 132" ∷
-      "open 114 0 20" ∷
-      "open 112 0 20" ∷
-      "u16 0 0 2 1" ∷
-      "u8 1 2 3 2" ∷
-      "u8 2 3 4 1" ∷
-      "ip4 3 4 8 10.0.0.1" ∷
-      "ip4 4 8 12 10.0.0.1" ∷
-      "u32 5 12 16 2147483649" ∷
-      "u16 6 16 18 4660" ∷
-      "u16 7 18 20 24" ∷
-      "close" ∷
-      "close" ∷
-      "bytes 25 20 21" ∷
-      [])
-  -- The update of version 3: 2 records, of which the first is cut into prefixes, and a tail of 3 bytes.
-  pub update : printed (0x03 ∷ 0x01 ∷ update3)
-      ≡ lines (
-      "ok 2 3 469" ∷
-      "open 114 4 96" ∷
-      "open 113 4 68" ∷
-      "u16 0 4 6 1" ∷
-      "u16 1 6 8 8201" ∷
-      "u32 2 8 12 7" ∷
-      "ip4 3 12 16 10.0.0.1" ∷
-      "u32 4 16 20 2147483650" ∷
-      "u16 5 20 22 43981" ∷
-      "u16 6 22 24 64" ∷
-      "u32 28 24 26 2" ∷
-      "u16 22 26 28 8193" ∷
-      "u32 25 28 32 0" ∷
-      "ip4 30 32 36 10.0.0.2" ∷
-      "open 29 36 68" ∷
-      "open 97 36 48" ∷
-      "u8 80 36 37 64" ∷
-      "u8 81 37 38 0" ∷
-      "u16 82 38 40 16" ∷
-      "ip6 83 40 48 20010db8000100020000000000000000" ∷
-      "close" ∷
-      "open 97 48 68" ∷
-      "u8 80 48 49 128" ∷
-      "u8 81 49 50 2" ∷
-      "u16 82 50 52 1000" ∷
-      "ip6 83 52 68 fe8000000000000002005efffe0a0b0c" ∷
-      "close" ∷
-      "close" ∷
-      "close" ∷
-      "open 113 68 96" ∷
-      "u16 0 68 70 3600" ∷
-      "u16 1 70 72 8194" ∷
-      "u32 2 72 76 5" ∷
-      "ip4 3 76 80 10.0.0.2" ∷
-      "u32 4 80 84 2147483651" ∷
-      "u16 5 84 86 17185" ∷
-      "u16 6 86 88 28" ∷
-      "u32 14 89 92 51" ∷
-      "open 16 92 96" ∷
-      "ip4 98 92 96 10.0.0.3" ∷
-      "close" ∷
-      "close" ∷
-      "close" ∷
-      "bytes 33 96 99" ∷
-      [])
-  -- A single LSA of version 2, opaque and without a body.
-  pub single : printed (
-      0x02 ∷ 0x02 ∷
-      0x01 ∷ 0x02 ∷ 0x03 ∷ 0x0b ∷
-      0x07 ∷ 0x06 ∷ 0x07 ∷ 0x08 ∷
-      0x09 ∷ 0x0a ∷ 0x0b ∷ 0x0c ∷
-      0x0d ∷ 0x0e ∷ 0x0f ∷ 0x10 ∷
-      0x11 ∷ 0x12 ∷ 0x00 ∷ 0x14 ∷
-      [])
-      ≡ lines (
-      "ok 1 0 135" ∷
-      "u16 0 0 2 258" ∷
-      "u8 1 2 3 3" ∷
-      "u8 2 3 4 11" ∷
-      "ip4 3 4 8 7.6.7.8" ∷
-      "ip4 4 8 12 9.10.11.12" ∷
-      "u32 5 12 16 219025168" ∷
-      "u16 6 16 18 4370" ∷
-      "u16 7 18 20 20" ∷
-      "u8 8 4 5 7" ∷
-      "u32 9 5 8 395016" ∷
-      "bytes 24 20 20" ∷
-      [])
+  pub all-printed : map (λ (x : Listing). printed (x .input)) printing ≡ map (λ (x : Listing). lines (x .output)) printing
   -- The same update at the largest offset.
   pub update-placed : updateOf 3 update3 5 4294901760
       ≡ accepted (
@@ -190,31 +204,13 @@ pub record Listings : Type 0 where
       closes ∷
       bytes 33 4294901856 4294901859 ∷
       []) 2 3
-  -- Header lists of both versions at an offset: two headers, of which the second of version 2 is opaque, and 3 bytes more.
-  pub headers-2 : headersOf 2 (
-      0x01 ∷ 0x02 ∷ 0x03 ∷ 0x01 ∷
-      0x05 ∷ 0x06 ∷ 0x07 ∷ 0x08 ∷
-      0x09 ∷ 0x0a ∷ 0x0b ∷ 0x0c ∷
-      0x0d ∷ 0x0e ∷ 0x0f ∷ 0x10 ∷
-      0x11 ∷ 0x12 ∷ 0x13 ∷ 0x14 ∷
-      0x15 ∷ 0x16 ∷ 0x17 ∷ 0x09 ∷
-      0x19 ∷ 0x1a ∷ 0x1b ∷ 0x1c ∷
-      0x1d ∷ 0x1e ∷ 0x1f ∷ 0x20 ∷
-      0x21 ∷ 0x22 ∷ 0x23 ∷ 0x24 ∷
-      0x25 ∷ 0x26 ∷ 0x27 ∷ 0x28 ∷
-      0x29 ∷ 0x2a ∷ 0x2b ∷
-      []) 1000
+  -- Header lists of both versions at an offset: two headers, of which the second of version 2 is opaque, and 3 bytes
+  -- more.
+  pub headers-2 : headersOf 2 (counted 43 (but 3 0x01 ∷ but 23 0x09 ∷ [])) 1000
       ≡ accepted (
       opens 114 1000 1040 ∷
       opens 112 1000 1020 ∷
-      u16 0 1000 1002 0x0102 ∷
-      u8 1 1002 1003 0x03 ∷
-      u8 2 1003 1004 0x01 ∷
-      ip4 3 1004 1008 0x05060708 ∷
-      ip4 4 1008 1012 0x090a0b0c ∷
-      u32 5 1012 1016 0x0d0e0f10 ∷
-      u16 6 1016 1018 0x1112 ∷
-      u16 7 1018 1020 0x1314 ∷
+      header2 0x01 0x05060708 (
       closes ∷
       opens 112 1020 1040 ∷
       u16 0 1020 1022 0x1516 ∷
@@ -230,30 +226,12 @@ pub record Listings : Type 0 where
       closes ∷
       closes ∷
       bytes 25 1040 1043 ∷
-      []) 2 3
-  pub headers-3 : headersOf 3 (
-      0x01 ∷ 0x02 ∷ 0x03 ∷ 0x04 ∷
-      0x05 ∷ 0x06 ∷ 0x07 ∷ 0x08 ∷
-      0x09 ∷ 0x0a ∷ 0x0b ∷ 0x0c ∷
-      0x0d ∷ 0x0e ∷ 0x0f ∷ 0x10 ∷
-      0x11 ∷ 0x12 ∷ 0x13 ∷ 0x14 ∷
-      0x15 ∷ 0x16 ∷ 0x17 ∷ 0x18 ∷
-      0x19 ∷ 0x1a ∷ 0x1b ∷ 0x1c ∷
-      0x1d ∷ 0x1e ∷ 0x1f ∷ 0x20 ∷
-      0x21 ∷ 0x22 ∷ 0x23 ∷ 0x24 ∷
-      0x25 ∷ 0x26 ∷ 0x27 ∷ 0x28 ∷
-      0x29 ∷ 0x2a ∷ 0x2b ∷
-      []) 1000
+      [])) 2 3
+  pub headers-3 : headersOf 3 (counted 43 []) 1000
       ≡ accepted (
       opens 114 1000 1040 ∷
       opens 112 1000 1020 ∷
-      u16 0 1000 1002 0x0102 ∷
-      u16 1 1002 1004 0x0304 ∷
-      u32 2 1004 1008 0x05060708 ∷
-      ip4 3 1008 1012 0x090a0b0c ∷
-      u32 4 1012 1016 0x0d0e0f10 ∷
-      u16 5 1016 1018 0x1112 ∷
-      u16 6 1018 1020 0x1314 ∷
+      header3 0x0304 (
       closes ∷
       opens 112 1020 1040 ∷
       u16 0 1020 1022 0x1516 ∷
@@ -266,16 +244,7 @@ pub record Listings : Type 0 where
       closes ∷
       closes ∷
       bytes 33 1040 1043 ∷
-      []) 2 3
-  -- A refused input prints one line: no version, no walk, no such walk, a version that is none, an update of 3 bytes, an LSA of 19,
-  -- too much input.
-  pub no-input : printed [] ≡ lines ("refused 4 0" ∷ [])
-  pub no-walk : printed (2 ∷ []) ≡ lines ("refused 4 0" ∷ [])
-  pub no-such-walk : printed (2 ∷ 3 ∷ []) ≡ lines ("refused 12 0" ∷ [])
-  pub no-version : printed (4 ∷ 0 ∷ []) ≡ lines ("refused 1 0" ∷ [])
-  pub short-update : printed (2 ∷ 1 ∷ replicate 3 0) ≡ lines ("refused 4 0" ∷ [])
-  pub short-lsa : printed (3 ∷ 2 ∷ replicate 19 0) ≡ lines ("refused 4 0" ∷ [])
-  pub too-much : printed (2 ∷ 0 ∷ replicate 2049 0) ≡ lines ("refused 2 0" ∷ [])
+      [])) 2 3
   -- Both forms of the first line: records, tail and length in this order; a number with the length needed.
   pub ok-line : firstLine (answer 0 30 10 20) ≡ lines ("ok 10 20 30" ∷ [])
   pub refused-line : firstLine (answer 5 1162790 0 0) ≡ lines ("refused 5 1162790" ∷ [])
@@ -306,19 +275,10 @@ unfolding printed firstLine line digits hex programOf walkOf namedOf headersOf u
     headerEntries2 headerEntries3 attachedRouter octets address bodyEntries bodyTail v2.lsaEntries2 v2.lsaTail2 v2.body2 v2.opaqueLsa
     v3.lsaEntries3 v3.body3 v3.networkLsa3 v3.prefix v3.intraAreaPrefixLsa flatMap
 listings = record {
-  worked = refl;
-  update = refl;
-  single = refl;
+  all-printed = refl;
   update-placed = refl;
   headers-2 = refl;
   headers-3 = refl;
-  no-input = refl;
-  no-walk = refl;
-  no-such-walk = refl;
-  no-version = refl;
-  short-update = refl;
-  short-lsa = refl;
-  too-much = refl;
   ok-line = refl;
   refused-line = refl;
   kind-lines = refl;

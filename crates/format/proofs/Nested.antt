@@ -20,20 +20,7 @@ pub data Nested (ok : ℕ → Bool) : List Entry → Type 0 where
   field : {x : Entry} {es : List Entry} → isField x ≡ true → Nested ok es → Nested ok (x ∷ es)
   group : {inside es : List Entry} (i s e : ℕ) → ok i ≡ true → Nested ok inside → Nested ok es → Nested ok (opens i s e ∷ (inside ++ (closes ∷ es)))
 
--- Whether all entries are fields.
-abbrev pub allFields : List Entry → Bool
-allFields [] = true
-allFields (x ∷ xs) = cond (isField x) (allFields xs) false
-
 module _ (ok : ℕ → Bool) where
-  pub nested-fields : (es : List Entry) → allFields es ≡ true → Nested ok es
-  nested-fields [] h = none
-  nested-fields (x ∷ xs) h = go (isField x) refl h (nested-fields xs)
-    where
-      go : (t : Bool) → isField x ≡ t → cond t (allFields xs) false ≡ true → (allFields xs ≡ true → Nested ok xs) → Nested ok (x ∷ xs)
-      go true e h n = field e (n h)
-      go false e h n = let z : _≡_ {A = ℕ} 0 1 = cc in absurd (omega arith)
-
   pub nested-append : {xs ys : List Entry} → Nested ok xs → Nested ok ys → Nested ok (xs ++ ys)
   nested-append none n = n
   nested-append (field e m) n = field e (nested-append m n)

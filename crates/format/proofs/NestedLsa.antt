@@ -6,11 +6,12 @@ use mathlib.Core.List.{List, [], _∷_}
 use lib.Dec.{ltb, eqb}
 use Rattle.format.specs.Cut.{Span}
 use Rattle.format.specs.Header.{headerEntries2, headerEntries3}
+use Rattle.format.specs.V2.{linkInside}
+use Rattle.format.specs.V3.{prefixInside}
 use Rattle.format.specs.Walks.{lsaEntries, headerEntries}
 use Rattle.format.specs.Lists.{containers, unparsed, rawOrTlvs}
 use Rattle.format.proofs.Nested.{Nested, nested-cond}
 use Rattle.format.proofs.Laid.{all, all-among, all-cond, cond-same, laid-nested}
-pub use Rattle.format.proofs.LaidLsa.{linkInside, prefixInside}
 use Rattle.format.proofs.LaidLsa.{laid-header2, laid-header3, laid-link-inside, laid-prefix-inside, laid-any}
 
 -- Ids below those of the walks' containers.

@@ -12,9 +12,9 @@ use lib.Seq.{sets, sets-eq, take-append-seam}
 use lib.Dec.{eqb}
 use borrow.Author.Tests.{le-ltb, lt-ltb, eq-eqb}
 use Rattle.format.specs.Bytes.{be16At, be32At}
-use Rattle.format.specs.Strip.{Entry, encode, readAll, container, u8At, u16At, u32At, wide16At}
+use Rattle.format.specs.Strip.{Entry, encode, readAll, container}
 use Rattle.format.specs.Strip.Entry.{bytes}
-use Rattle.format.specs.Prefix.{ip6At}
+use Rattle.format.specs.Layout.{Layout, entriesAt}
 use Rattle.format.specs.Cut.{Span, Rule, cut, after, linkRule, prefixRule}
 use Rattle.format.specs.Header.{headerSize, headerEntries2, headerEntries3}
 use Rattle.format.specs.Body.{listing, leftover, bodyEntries, bodyTail}
@@ -26,9 +26,10 @@ use Rattle.format.specs.Shown.{Shows, Listed, LsaShows}
 use Rattle.format.proofs.Read.{read-encode}
 use Rattle.format.specs.CutInto.{LinkAt, PrefixAt}
 use Rattle.format.proofs.CutInto.{cut-into, only-cut, link-stands, prefix-stands}
-use Rattle.format.proofs.Nested.{Nested, nested-fields, nested-append, nested-leftover, absent, ranges-append, ranges-container}
+use Rattle.format.proofs.Nested.{Nested, nested-append, nested-leftover, absent, ranges-append, ranges-container}
+use Rattle.format.proofs.Rows.{rows-nested}
 use Rattle.format.proofs.Laid.{cut-inside}
-use Rattle.format.proofs.NestedLsa.{nested-header2, nested-header3, linkInside, nested-link-inside, prefixInside, nested-prefix-inside}
+use Rattle.format.proofs.NestedLsa.{nested-header2, nested-header3, nested-link-inside, nested-prefix-inside}
 
 -- An array of containers, seen by an id that is neither theirs nor inside them, or by theirs.
 module _ (o item : ℕ) (inside : Span → List Entry) where
@@ -103,10 +104,10 @@ links-shown d o h l =
     let q = o + headerSize in
     let m = le-ltb (length b) 4 l in
     let ends = cut-inside 12 _ b (be16At b 2) 4 l in
-    listed (shows linkRule b (LinkAt b) (link-stands b) (be16At b 2) 4 ends q 16 96 25 (linkInside b q) tos refl refl refl refl
+    listed (shows linkRule b (LinkAt b) (link-stands b) (be16At b 2) 4 ends q 16 96 25 (v2.linkInside b q) tos refl refl refl refl
     (nested-link-inside tos refl refl b q)
-    (headerEntries2 d o ++ (v2.routerFlags b q ++ (u16At 15 b q 2 ∷ [])))
-    (nested-append tos (nested-header2 tos d o) (nested-fields tos (v2.routerFlags b q ++ (u16At 15 b q 2 ∷ [])) refl))
+    (headerEntries2 d o ++ entriesAt v2.routerRows b q 0)
+    (nested-append tos (nested-header2 tos d o) (rows-nested b q 0 tos v2.routerRows))
     _ _
     (rw (h, m) (sym (append-assoc (headerEntries2 d o) _ _)))
     (rw (h, m) refl))
@@ -118,39 +119,37 @@ links-shown d o h l =
 no-container : ℕ → Bool
 no-container i = false
 
-link-prefixes-shown : (d : List ℕ) (o : ℕ) → v3.functionCode d ≡ 8 → 24 ≤ length (drop headerSize d)
-    → Listed (PrefixAt (drop headerSize d)) (length (drop headerSize d)) (be32At (drop headerSize d) 20) 24 (o + headerSize) 29 97 33 (v3.lsaEntries3 d o) (v3.lsaTail3 d)
-unfolding v3.lsaEntries3 v3.lsaTail3 v3.body3 v3.linkLsa v3.prefix bodyEntries bodyTail no-container
-link-prefixes-shown d o h l =
-    let b = drop headerSize d in
-    let q = o + headerSize in
-    let m = le-ltb (length b) 24 l in
-    let fixed = u8At 26 b q 0 ∷ v3.options b q ∷ ip6At 27 b q 4 16 ∷ u32At 28 b q 20 ∷ [] in
-    let ends = cut-inside 4 _ b (be32At b 20) 24 l in
-    listed (shows prefixRule b (PrefixAt b) (prefix-stands b) (be32At b 20) 24 ends q 29 97 33 (prefixInside false b q) no-container refl refl refl refl
-    (nested-prefix-inside no-container false b q)
-    (headerEntries3 d o ++ fixed)
-    (nested-append no-container (nested-header3 no-container d o) (nested-fields no-container fixed refl))
-    _ _
-    (rw (h, m) (sym (append-assoc (headerEntries3 d o) fixed _)))
-    (rw (h, m) refl))
+module _ (d : List ℕ) (o : ℕ) where
+  -- the body, its place, and its prefixes from the first on
+  abbrev b : List ℕ
+  b = drop headerSize d
 
-area-prefixes-shown : (d : List ℕ) (o : ℕ) → v3.functionCode d ≡ 9 → 12 ≤ length (drop headerSize d)
-    → Listed (PrefixAt (drop headerSize d)) (length (drop headerSize d)) (be16At (drop headerSize d) 0) 12 (o + headerSize) 29 97 33 (v3.lsaEntries3 d o) (v3.lsaTail3 d)
-unfolding v3.lsaEntries3 v3.lsaTail3 v3.body3 v3.intraAreaPrefixLsa v3.prefix bodyEntries bodyTail no-container
-area-prefixes-shown d o h l =
-    let b = drop headerSize d in
-    let q = o + headerSize in
-    let m = le-ltb (length b) 12 l in
-    let fixed = wide16At 28 b q 0 ∷ v3.references b q in
-    let ends = cut-inside 4 _ b (be16At b 0) 12 l in
-    listed (shows prefixRule b (PrefixAt b) (prefix-stands b) (be16At b 0) 12 ends q 29 97 33 (prefixInside true b q) no-container refl refl refl refl
-    (nested-prefix-inside no-container true b q)
-    (headerEntries3 d o ++ fixed)
-    (nested-append no-container (nested-header3 no-container d o) (nested-fields no-container fixed refl))
-    _ _
-    (rw (h, m) (sym (append-assoc (headerEntries3 d o) fixed _)))
-    (rw (h, m) refl))
+  abbrev q : ℕ
+  q = o + headerSize
+
+  abbrev Prefixes : (count first : ℕ) → Type 0
+  Prefixes count first = Listed (PrefixAt b) (length b) count first q 29 97 33 (v3.lsaEntries3 d o) (v3.lsaTail3 d)
+
+  after-table : (m : Bool) (t : Layout) (count first : ℕ) → first ≤ length b
+      → v3.lsaEntries3 d o ≡ headerEntries3 d o ++ ((entriesAt t b q 0 ++ listing 29 (v3.prefix m b q) q first (cut prefixRule b count first)) ++ leftover 33 b q (after first (cut prefixRule b count first)))
+      → v3.lsaTail3 d ≡ length b - after first (cut prefixRule b count first) → Prefixes count first
+  unfolding v3.prefix no-container
+  after-table m t count first l e f =
+      listed (shows prefixRule b (PrefixAt b) (prefix-stands b) count first (cut-inside 4 _ b count first l) q 29 97 33 (v3.prefixInside m b q) no-container refl refl refl refl
+      (nested-prefix-inside no-container m b q)
+      (headerEntries3 d o ++ entriesAt t b q 0)
+      (nested-append no-container (nested-header3 no-container d o) (rows-nested b q 0 no-container t))
+      _ _
+      (e ∙ (ap (λ (x : List Entry). headerEntries3 d o ++ x) (append-assoc (entriesAt t b q 0) _ _) ∙ sym (append-assoc (headerEntries3 d o) (entriesAt t b q 0) _)))
+      f)
+
+  link-prefixes-shown : v3.functionCode d ≡ 8 → 24 ≤ length b → Prefixes (be32At b 20) 24
+  unfolding v3.lsaEntries3 v3.lsaTail3 v3.body3 v3.linkLsa bodyEntries bodyTail
+  link-prefixes-shown h l = let m = le-ltb (length b) 24 l in after-table false v3.linkLsaRows (be32At b 20) 24 l (rw (h, m) refl) (rw (h, m) refl)
+
+  area-prefixes-shown : v3.functionCode d ≡ 9 → 12 ≤ length b → Prefixes (be16At b 0) 12
+  unfolding v3.lsaEntries3 v3.lsaTail3 v3.body3 v3.intraAreaPrefixLsa bodyEntries bodyTail
+  area-prefixes-shown h l = let m = le-ltb (length b) 12 l in after-table true v3.intraAreaPrefixRows (be16At b 0) 12 l (rw (h, m) refl) (rw (h, m) refl)
 
 -- The lists inside any LSA.
 pub lsa-shows : (v : ℕ) (d : List ℕ) (o : ℕ) → LsaShows v d o (lsaEntries v d o) (lsaTail v d)

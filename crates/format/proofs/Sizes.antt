@@ -4,13 +4,13 @@ use Prim.Native.Nat.{ℕ, _+_, _*_, _-_, _/_, _≤_, _<_}
 use native.Mathlib.Omega.{arith}
 use mathlib.Core.Path.{_≡_, refl}
 use mathlib.Core.Bool.{Bool, true, false, cond}
-use mathlib.Core.List.{List, [], _∷_, _++_}
+use mathlib.Core.List.{List, [], _++_}
 use mathlib.Core.Option.{Option, none, some}
 use lib.ListN.{length, getD, drop, length-drop}
 use lib.Dec.{ltb, eqb}
 use Rattle.format.specs.Bytes.{be16At, be32At, part}
-use Rattle.format.specs.Strip.{Entry, code, encode, container, u8At, metric24At}
-use Rattle.format.specs.Prefix.{ip6At}
+use Rattle.format.specs.Strip.{Entry, code, encode, container}
+use Rattle.format.specs.Layout.{entriesAt}
 use Rattle.format.specs.Cut.{Span, cut, after, linkRule, prefixRule, recordRule, fixedRule}
 use Rattle.format.specs.Header.{headerSize, headerEntries2, headerEntries3}
 use Rattle.format.specs.Body.{Body, whole, attachedRouter}
@@ -113,10 +113,10 @@ module _ (b : List ℕ) (o : ℕ) where
 
   inter-area-prefix : Sized3 b (v3.interAreaPrefixLsa b o)
   unfolding v3.interAreaPrefixLsa encode code
-  inter-area-prefix = go (v3.prefixFits b (getD b 4 0) 8) refl
+  inter-area-prefix = go (v3.fixedPrefixFits b) refl
     where
-      go : (x : Option ℕ) → v3.prefixFits b (getD b 4 0) 8 ≡ x
-          → Sized3 b (elim x [ none ↦ raw | some n ↦ decoded (metric24At 17 b o 1 ∷ u8At 18 b o 4 ∷ u8At 19 b o 5 ∷ ip6At 20 b o 8 n ∷ []) (8 + n) ])
+      go : (x : Option ℕ) → v3.fixedPrefixFits b ≡ x
+          → Sized3 b (elim x [ none ↦ raw | some n ↦ decoded (entriesAt (v3.interAreaPrefixRows n) b o 0) (8 + n) ])
       go none e = raw-sized
       go (some n) e = let i = fits-inside b (getD b 4 0) 8 n e in record { bound = omega arith }
 
@@ -126,7 +126,7 @@ module _ (b : List ℕ) (o : ℕ) where
 
   external3 : Sized3 b (v3.externalLsa3 b o)
   unfolding v3.externalLsa3 encode code
-  external3 = go (v3.prefixFits b (getD b 4 0) 8)
+  external3 = go (v3.fixedPrefixFits b)
     where
       -- each optional part takes fewer than 18 bytes for each of its own
       part : (s : Bool) (l n : ℕ) → l ≤ 18 * n → cond s l 0 ≤ 18 * cond s n 0
@@ -171,13 +171,13 @@ module _ (b : List ℕ) (o : ℕ) where
       (choice-sized (eqb f 8) link-lsa
       (choice-sized (eqb f 9) intra-area-prefix
       (choice-sized (eqb f 12) t
-      (choice-sized (eqb f 33) (tlv-lsa 4 (v3.routerFlags b o ++ (v3.options b o ∷ [])) (omega arith))
-      (choice-sized (eqb f 34) (tlv-lsa 4 (v3.options b o ∷ []) (omega arith))
+      (choice-sized (eqb f 33) (tlv-lsa 4 (entriesAt v3.routerRows b o 0) (omega arith))
+      (choice-sized (eqb f 34) (tlv-lsa 4 (entriesAt v3.networkRows b o 0) (omega arith))
       (choice-sized (eqb f 35) t
       (choice-sized (eqb f 36) t
       (choice-sized (eqb f 37) t
       (choice-sized (eqb f 39) t
-      (choice-sized (eqb f 40) (tlv-lsa 4 (u8At 26 b o 0 ∷ v3.options b o ∷ []) (omega arith))
+      (choice-sized (eqb f 40) (tlv-lsa 4 (entriesAt v3.eLinkRows b o 0) (omega arith))
       (choice-sized (eqb f 41) (tlv-lsa 12 (v3.references b o) (omega arith))
       (choice-sized (eqb f 42) t raw-sized)))))))))))))))))
 

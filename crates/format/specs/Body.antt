@@ -4,8 +4,11 @@ use mathlib.Core.Bool.{cond}
 use mathlib.Core.List.{List, [], _∷_, _++_, flatMap}
 use lib.ListN.{length}
 use lib.Dec.{ltb}
-use Rattle.format.specs.Strip.{Entry, container, ip4At}
+use Rattle.format.specs.Strip.{Entry, container}
 use Rattle.format.specs.Strip.Entry.{bytes}
+use Rattle.format.specs.Layout.{Layout, entriesAt}
+use Rattle.format.specs.Layout.Field.{ip4}
+use Rattle.format.specs.Layout.Row.{row}
 use Rattle.format.specs.Cut.{Span, cut, after, fixedRule}
 
 -- A body is decoded, up to a place, or it is raw.
@@ -40,6 +43,15 @@ unfoldable pub bodyTail : Body → List ℕ → ℕ
 bodyTail (decoded es n) b = length b - n
 bodyTail raw b = 0
 
+-- The id of a link's object in a Router-LSA of either version.
+abbrev pub linkObject : ℕ
+linkObject = 96
+
 -- A router's id in a Network-LSA of either version (RFC 2328 A.4.3, RFC 5340 A.4.4).
+abbrev pub attachedRouterRows : Layout
+attachedRouterRows =
+    row 0 ip4 98 ∷  -- Attached Router
+    []
+
 unfoldable pub attachedRouter : List ℕ → ℕ → Span → List Entry
-attachedRouter b o s = ip4At 98 b o (s .at) ∷ []
+attachedRouter b o s = entriesAt attachedRouterRows b o (s .at)

@@ -5,7 +5,10 @@ use mathlib.Core.List.{List, [], _∷_, _++_}
 use lib.ListN.{length, getD}
 use lib.Dec.{leb, ltb, eqb}
 use Rattle.format.specs.Bytes.{be16At, be32At}
-use Rattle.format.specs.Strip.{Entry, u8At, u16At, u24At, u32At, ip4At}
+use Rattle.format.specs.Strip.{Entry}
+use Rattle.format.specs.Layout.{Layout, entriesAt}
+use Rattle.format.specs.Layout.Field.{u8, u16, u24, u32, ip4}
+use Rattle.format.specs.Layout.Row.{row}
 
 -- The header's length, MaxAge and MaxAgeDiff (RFC 2328 A.4.1 and appendix B).
 abbrev pub headerSize : ℕ
@@ -22,36 +25,51 @@ abbrev pub isOpaque : ℕ → Bool
 isOpaque t = cond (leb 9 t) (leb t 11) false
 
 -- RFC 5250 3: the Link State ID of an opaque LSA is an opaque type and an opaque id of 24 bits.
+abbrev pub opaqueRows : Layout
+opaqueRows =
+    row 4 u8 8 ∷  -- Opaque Type
+    row 5 u24 9 ∷  -- Opaque ID
+    []
+
 abbrev pub opaqueEntries : List ℕ → ℕ → List Entry
-opaqueEntries b o = u8At 8 b o 4 ∷ u24At 9 b o 5 ∷ []
+opaqueEntries b o = entriesAt opaqueRows b o 0
 
--- What tells the instances of one LSA apart, besides its age: LS sequence number, LS checksum, length. They lie alike in
--- both versions, and their ids follow one another.
+-- What tells the instances of one LSA apart, besides its age. It lies alike in both versions, and its ids follow one
+-- another.
+abbrev pub instanceRows : ℕ → Layout
+instanceRows i =
+    row 12 u32 i ∷  -- LS sequence number
+    row 16 u16 (i + 1) ∷  -- LS checksum
+    row 18 u16 (i + 2) ∷  -- length
+    []
+
 abbrev pub instanceEntries : ℕ → List ℕ → ℕ → List Entry
-instanceEntries i b o =
-    u32At i b o 12 ∷
-    u16At (i + 1) b o 16 ∷
-    u16At (i + 2) b o 18 ∷
+instanceEntries i b o = entriesAt (instanceRows i) b o 0
+
+-- RFC 2328 A.4.1: what comes before that in a header of version 2.
+abbrev pub identityRows2 : Layout
+identityRows2 =
+    row 0 u16 0 ∷  -- LS age
+    row 2 u8 1 ∷  -- Options
+    row 3 u8 2 ∷  -- LS type
+    row 4 ip4 3 ∷  -- Link State ID
+    row 8 ip4 4 ∷  -- Advertising Router
     []
 
--- RFC 2328 A.4.1: LS age, Options, LS type, Link State ID, Advertising Router.
 abbrev pub identityEntries2 : List ℕ → ℕ → List Entry
-identityEntries2 b o =
-    u16At 0 b o 0 ∷
-    u8At 1 b o 2 ∷
-    u8At 2 b o 3 ∷
-    ip4At 3 b o 4 ∷
-    ip4At 4 b o 8 ∷
+identityEntries2 b o = entriesAt identityRows2 b o 0
+
+-- RFC 5340 A.4.2: the same in version 3.
+abbrev pub identityRows3 : Layout
+identityRows3 =
+    row 0 u16 0 ∷  -- LS age
+    row 2 u16 1 ∷  -- LS type
+    row 4 u32 2 ∷  -- Link State ID
+    row 8 ip4 3 ∷  -- Advertising Router
     []
 
--- RFC 5340 A.4.2: LS age, LS type, Link State ID, Advertising Router.
 abbrev pub identityEntries3 : List ℕ → ℕ → List Entry
-identityEntries3 b o =
-    u16At 0 b o 0 ∷
-    u16At 1 b o 2 ∷
-    u32At 2 b o 4 ∷
-    ip4At 3 b o 8 ∷
-    []
+identityEntries3 b o = entriesAt identityRows3 b o 0
 
 -- The whole header of version 2, with the parts of an opaque LSA's Link State ID after it.
 unfoldable pub headerEntries2 : List ℕ → ℕ → List Entry

@@ -3,6 +3,7 @@ pub mod Bytes
 pub mod Strip
 pub mod Wrote
 pub mod Prefix
+pub mod Layout
 pub mod Cut
 pub mod Header
 pub mod Body

@@ -5,33 +5,72 @@ use mathlib.Core.List.{List, [], _∷_, _++_}
 use lib.ListN.{length, getD, drop}
 use lib.Dec.{ltb, eqb}
 use Rattle.format.specs.Bytes.{be16At}
-use Rattle.format.specs.Strip.{Entry, container, u8At, bitAt, lowBitsAt, u16At, wide16At, metric24At, u32At, ip4At}
+use Rattle.format.specs.Strip.{Entry, container}
 use Rattle.format.specs.Strip.Entry.{bytes}
+use Rattle.format.specs.Layout.{Layout, entriesAt}
+use Rattle.format.specs.Layout.Field.{u8, bit, lowBits, u16, wide16, metric24, u32, ip4}
+use Rattle.format.specs.Layout.Row.{row}
 use Rattle.format.specs.Cut.{Span, cut, after, linkRule, fixedRule}
 use Rattle.format.specs.Header.{headerSize, headerEntries2}
-use Rattle.format.specs.Body.{Body, listing, listingIfAny, whole, attachedRouter, bodyEntries, bodyTail}
+use Rattle.format.specs.Body.{Body, linkObject, listing, listingIfAny, whole, attachedRouter, bodyEntries, bodyTail}
 use Rattle.format.specs.Body.Body.{decoded, raw}
 
--- RFC 2328 A.4.2: a link's TOS metric is TOS, 0, and a metric of 16 bits.
+-- Ids that stand in more than one table: of a body, and of the TOS metrics in it.
+abbrev flagE : ℕ
+flagE = 13
+
+abbrev networkMask : ℕ
+networkMask = 17
+
+abbrev metric : ℕ
+metric = 19
+
+abbrev tosMetrics : ℕ
+tosMetrics = 20
+
+abbrev tos : ℕ
+tos = 81
+
+abbrev tosMetric : ℕ
+tosMetric = 82
+
+-- The object of a TOS metric of n bytes.
+abbrev tosObject : Layout → ℕ → List ℕ → ℕ → Span → List Entry
+tosObject t n b o s = container 97 (o + s .at) (o + s .at + n) (entriesAt t b o (s .at))
+
+-- RFC 2328 A.4.2: a link's TOS metric, of 16 bits.
+abbrev pub linkTosRows : Layout
+linkTosRows =
+    row 0 u8 tos ∷  -- TOS
+    row 2 wide16 tosMetric ∷  -- TOS metric
+    []
+
 unfoldable pub linkTos : List ℕ → ℕ → Span → List Entry
-linkTos b o s = container 97 (o + s .at) (o + s .at + 4) (u8At 81 b o (s .at) ∷ wide16At 82 b o (s .at + 2) ∷ [])
+linkTos b o s = tosObject linkTosRows 4 b o s
 
 -- The TOS metrics of the link at p, as many as its byte 9 says.
 abbrev pub linkTosSpans : List ℕ → ℕ → List Span
 linkTosSpans b p = cut (fixedRule 4) b (getD b (p + 9) 0) (p + 12)
 
--- RFC 2328 A.4.2: Link ID, Link Data, Type, # TOS, metric.
-abbrev pub linkFields : List ℕ → ℕ → ℕ → List Entry
-linkFields b o p =
-    ip4At 64 b o p ∷
-    ip4At 65 b o (p + 4) ∷
-    u8At 66 b o (p + 8) ∷
-    u8At 67 b o (p + 9) ∷
-    u16At 68 b o (p + 10) ∷
+-- RFC 2328 A.4.2: a link, before its TOS metrics.
+abbrev pub linkRows : Layout
+linkRows =
+    row 0 ip4 64 ∷  -- Link ID
+    row 4 ip4 65 ∷  -- Link Data
+    row 8 u8 66 ∷  -- Type
+    row 9 u8 67 ∷  -- # TOS
+    row 10 u16 68 ∷  -- metric
     []
 
+abbrev pub linkFields : List ℕ → ℕ → ℕ → List Entry
+linkFields b o p = entriesAt linkRows b o p
+
+-- What is inside a link.
+abbrev pub linkInside : List ℕ → ℕ → Span → List Entry
+linkInside b o s = linkFields b o (s .at) ++ listingIfAny 69 (linkTos b o) o (s .at + 12) (linkTosSpans b (s .at))
+
 unfoldable pub link : List ℕ → ℕ → Span → List Entry
-link b o s = container 96 (o + s .at) (o + s .at + s .len) (linkFields b o (s .at) ++ listingIfAny 69 (linkTos b o) o (s .at + 12) (linkTosSpans b (s .at)))
+link b o s = container linkObject (o + s .at) (o + s .at + s .len) (linkInside b o s)
 
 -- The links of a Router-LSA, from the first on, under its own count.
 abbrev pub firstLink : ℕ
@@ -40,62 +79,97 @@ firstLink = 4
 abbrev pub links : List ℕ → List Span
 links b = cut linkRule b (be16At b 2) firstLink
 
--- RFC 2328 A.4.2 and RFC 3101: the bits Nt, V, E and B.
-abbrev pub routerFlags : List ℕ → ℕ → List Entry
-routerFlags b o =
-    u8At 10 b o 0 ∷
-    bitAt 11 b o 0 0x10 ∷
-    bitAt 12 b o 0 0x04 ∷
-    bitAt 13 b o 0 0x02 ∷
-    bitAt 14 b o 0 0x01 ∷
+-- RFC 2328 A.4.2 and RFC 3101: the flags of a router.
+abbrev pub routerFlagRows : Layout
+routerFlagRows =
+    row 0 u8 10 ∷  -- flags
+    row 0 (bit 0x10) 11 ∷  -- Nt
+    row 0 (bit 0x04) 12 ∷  -- V
+    row 0 (bit 0x02) flagE ∷  -- E
+    row 0 (bit 0x01) 14 ∷  -- B
     []
 
+abbrev pub routerFlags : List ℕ → ℕ → List Entry
+routerFlags b o = entriesAt routerFlagRows b o 0
+
 -- RFC 2328 A.4.2: flags, 0, # links, links.
+abbrev pub routerRows : Layout
+routerRows =
+    routerFlagRows ++ (
+    row 2 u16 15 ∷  -- # links
+    [])
+
 unfoldable pub routerLsa2 : List ℕ → ℕ → Body
 routerLsa2 b o =
     cond (ltb (length b) firstLink) raw
-    (decoded (routerFlags b o ++ (u16At 15 b o 2 ∷ listing 16 (link b o) o firstLink (links b))) (after firstLink (links b)))
+    (decoded (entriesAt routerRows b o 0 ++ listing 16 (link b o) o firstLink (links b)) (after firstLink (links b)))
 
 -- RFC 2328 A.4.3: Network Mask, Attached Routers.
+abbrev pub networkRows : Layout
+networkRows =
+    row 0 ip4 networkMask ∷  -- Network Mask
+    []
+
 unfoldable pub networkLsa2 : List ℕ → ℕ → Body
 networkLsa2 b o =
     cond (ltb (length b) 4) raw
-    (decoded (ip4At 17 b o 0 ∷ listing 18 (attachedRouter b o) o 4 (whole 4 b 4)) (after 4 (whole 4 b 4)))
+    (decoded (entriesAt networkRows b o 0 ++ listing 18 (attachedRouter b o) o 4 (whole 4 b 4)) (after 4 (whole 4 b 4)))
 
--- RFC 2328 A.4.4: TOS, and a metric of 24 bits.
+-- RFC 2328 A.4.4: a summary's TOS metric, of 24 bits.
+abbrev pub summaryTosRows : Layout
+summaryTosRows =
+    row 0 u8 tos ∷  -- TOS
+    row 1 metric24 tosMetric ∷  -- TOS metric
+    []
+
 unfoldable pub summaryTos : List ℕ → ℕ → Span → List Entry
-summaryTos b o s = container 97 (o + s .at) (o + s .at + 4) (u8At 81 b o (s .at) ∷ metric24At 82 b o (s .at + 1) ∷ [])
+summaryTos b o s = tosObject summaryTosRows 4 b o s
 
 -- RFC 2328 A.4.4: Network Mask, 0, metric, TOS metrics.
+abbrev pub summaryRows : Layout
+summaryRows =
+    row 0 ip4 networkMask ∷  -- Network Mask
+    row 5 metric24 metric ∷  -- metric
+    []
+
 unfoldable pub summaryLsa : List ℕ → ℕ → Body
 summaryLsa b o =
     cond (ltb (length b) 8) raw
-    (decoded (ip4At 17 b o 0 ∷ metric24At 19 b o 5 ∷ listingIfAny 20 (summaryTos b o) o 8 (whole 4 b 8)) (after 8 (whole 4 b 8)))
+    (decoded (entriesAt summaryRows b o 0 ++ listingIfAny tosMetrics (summaryTos b o) o 8 (whole 4 b 8)) (after 8 (whole 4 b 8)))
 
--- RFC 2328 A.4.5: E bit and TOS in one byte, metric, Forwarding address, External Route Tag.
-unfoldable pub externalTos : List ℕ → ℕ → Span → List Entry
-externalTos b o s = container 97 (o + s .at) (o + s .at + 12) (
-    bitAt 80 b o (s .at) 0x80 ∷
-    lowBitsAt 81 b o (s .at) 0x80 ∷
-    metric24At 82 b o (s .at + 1) ∷
-    ip4At 83 b o (s .at + 4) ∷
-    u32At 84 b o (s .at + 8) ∷
-    [])
-
--- RFC 2328 A.4.5 and RFC 3101: Network Mask, then for TOS 0 the E bit, metric, Forwarding address, External Route Tag.
-abbrev pub externalFields : List ℕ → ℕ → List Entry
-externalFields b o =
-    ip4At 17 b o 0 ∷
-    bitAt 13 b o 4 0x80 ∷
-    metric24At 19 b o 5 ∷
-    ip4At 21 b o 8 ∷
-    u32At 22 b o 12 ∷
+-- RFC 2328 A.4.5: an external's TOS metric.
+abbrev pub externalTosRows : Layout
+externalTosRows =
+    row 0 (bit 0x80) 80 ∷  -- E
+    row 0 (lowBits 0x80) tos ∷  -- TOS
+    row 1 metric24 tosMetric ∷  -- TOS metric
+    row 4 ip4 83 ∷  -- Forwarding address
+    row 8 u32 84 ∷  -- External Route Tag
     []
+
+abbrev pub externalTosFields : List ℕ → ℕ → ℕ → List Entry
+externalTosFields b o p = entriesAt externalTosRows b o p
+
+unfoldable pub externalTos : List ℕ → ℕ → Span → List Entry
+externalTos b o s = tosObject externalTosRows 12 b o s
+
+-- RFC 2328 A.4.5 and RFC 3101: Network Mask, then the rest for TOS 0; TOS metrics.
+abbrev pub externalRows : Layout
+externalRows =
+    row 0 ip4 networkMask ∷  -- Network Mask
+    row 4 (bit 0x80) flagE ∷  -- E
+    row 5 metric24 metric ∷  -- metric
+    row 8 ip4 21 ∷  -- Forwarding address
+    row 12 u32 22 ∷  -- External Route Tag
+    []
+
+abbrev pub externalFields : List ℕ → ℕ → List Entry
+externalFields b o = entriesAt externalRows b o 0
 
 unfoldable pub externalLsa2 : List ℕ → ℕ → Body
 externalLsa2 b o =
     cond (ltb (length b) 16) raw
-    (decoded (externalFields b o ++ listingIfAny 20 (externalTos b o) o 16 (whole 12 b 16)) (after 16 (whole 12 b 16)))
+    (decoded (externalFields b o ++ listingIfAny tosMetrics (externalTos b o) o 16 (whole 12 b 16)) (after 16 (whole 12 b 16)))
 
 -- Opaque types whose bodies are TLVs: Traffic Engineering (RFC 3630), Router Information (RFC 7770), Extended Prefix and
 -- Extended Link (RFC 7684).

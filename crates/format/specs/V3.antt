@@ -6,73 +6,156 @@ use mathlib.Core.Option.{Option, none, some}
 use lib.ListN.{length, getD, drop}
 use lib.Dec.{leb, ltb, eqb}
 use Rattle.format.specs.Bytes.{be16At, be32At}
-use Rattle.format.specs.Strip.{Entry, container, u8At, bitAt, u16At, wide16At, u24At, metric24At, u32At, ip4At}
+use Rattle.format.specs.Strip.{Entry, container}
 use Rattle.format.specs.Strip.Entry.{bytes}
-use Rattle.format.specs.Prefix.{octets, ip6At}
+use Rattle.format.specs.Prefix.{octets}
+use Rattle.format.specs.Layout.{Row, Layout, entryOf, entriesAt}
+use Rattle.format.specs.Layout.Field.{u8, bit, u16, wide16, u24, metric24, u32, ip4, ip6}
+use Rattle.format.specs.Layout.Row.{row}
 use Rattle.format.specs.Cut.{Span, cut, after, prefixRule}
 use Rattle.format.specs.Header.{headerSize, headerEntries3}
-use Rattle.format.specs.Body.{Body, listing, whole, attachedRouter, bodyEntries, bodyTail}
+use Rattle.format.specs.Body.{Body, linkObject, listing, whole, attachedRouter, bodyEntries, bodyTail}
 use Rattle.format.specs.Body.Body.{decoded, raw}
 
--- RFC 5340 A.4.3: the bits Nt, V, E and B of a router.
-abbrev pub routerFlags : List ℕ → ℕ → List Entry
-routerFlags b o =
-    u8At 7 b o 0 ∷
-    bitAt 8 b o 0 0x10 ∷
-    bitAt 9 b o 0 0x04 ∷
-    bitAt 10 b o 0 0x02 ∷
-    bitAt 11 b o 0 0x01 ∷
+-- Ids that stand in more than one table.
+abbrev flags : ℕ
+flags = 7
+
+abbrev flagE : ℕ
+flagE = 10
+
+abbrev metric : ℕ
+metric = 17
+
+abbrev prefixLength : ℕ
+prefixLength = 18
+
+abbrev prefixOptions : ℕ
+prefixOptions = 19
+
+abbrev addressPrefix : ℕ
+addressPrefix = 20
+
+abbrev referencedLsType : ℕ
+referencedLsType = 22
+
+abbrev referencedId : ℕ
+referencedId = 25
+
+abbrev routerPriority : ℕ
+routerPriority = 26
+
+abbrev numberOfPrefixes : ℕ
+numberOfPrefixes = 28
+
+abbrev prefixes : ℕ
+prefixes = 29
+
+-- RFC 5340 A.4.3: the flags of a router.
+abbrev pub routerFlagRows : Layout
+routerFlagRows =
+    row 0 u8 flags ∷  -- flags
+    row 0 (bit 0x10) 8 ∷  -- Nt
+    row 0 (bit 0x04) 9 ∷  -- V
+    row 0 (bit 0x02) flagE ∷  -- E
+    row 0 (bit 0x01) 11 ∷  -- B
     []
 
--- RFC 5340 A.2: the options, of 24 bits.
+abbrev pub routerFlags : List ℕ → ℕ → List Entry
+routerFlags b o = entriesAt routerFlagRows b o 0
+
+-- RFC 5340 A.2: the options, of 24 bits. They lie alike in every body that has them.
+abbrev pub optionsRow : Row
+optionsRow = row 1 u24 14
+
 abbrev pub options : List ℕ → ℕ → Entry
-options b o = u24At 14 b o 1
+options b o = entryOf b o 0 optionsRow
 
 -- TLVs from p to the end of the body. They are not opened.
 abbrev pub tlvs : List ℕ → ℕ → ℕ → List Entry
 tlvs b o p = bytes 32 (o + p) (o + length b) ∷ []
 
--- RFC 5340 A.4.3: Type, 0, Metric, Interface ID, Neighbor Interface ID, Neighbor Router ID.
+-- RFC 5340 A.4.3: a link.
+abbrev pub linkRows : Layout
+linkRows =
+    row 0 u8 64 ∷  -- Type
+    row 2 u16 65 ∷  -- Metric
+    row 4 u32 66 ∷  -- Interface ID
+    row 8 u32 67 ∷  -- Neighbor Interface ID
+    row 12 ip4 68 ∷  -- Neighbor Router ID
+    []
+
+abbrev pub linkFields : List ℕ → ℕ → ℕ → List Entry
+linkFields b o p = entriesAt linkRows b o p
+
 unfoldable pub link : List ℕ → ℕ → Span → List Entry
-link b o s = container 96 (o + s .at) (o + s .at + 16) (
-    u8At 64 b o (s .at) ∷
-    u16At 65 b o (s .at + 2) ∷
-    u32At 66 b o (s .at + 4) ∷
-    u32At 67 b o (s .at + 8) ∷
-    ip4At 68 b o (s .at + 12) ∷
-    [])
+link b o s = container linkObject (o + s .at) (o + s .at + 16) (linkFields b o (s .at))
 
 -- RFC 5340 A.4.3: flags, Options, and links of 16 bytes, which are not counted.
+abbrev pub routerRows : Layout
+routerRows =
+    routerFlagRows ++ (
+    optionsRow ∷  -- Options
+    [])
+
 unfoldable pub routerLsa3 : List ℕ → ℕ → Body
 routerLsa3 b o =
     cond (ltb (length b) 4) raw
-    (decoded (routerFlags b o ++ (options b o ∷ listing 15 (link b o) o 4 (whole 16 b 4))) (after 4 (whole 16 b 4)))
+    (decoded (entriesAt routerRows b o 0 ++ listing 15 (link b o) o 4 (whole 16 b 4)) (after 4 (whole 16 b 4)))
 
 -- RFC 5340 A.4.4: 0, Options, Attached Routers.
+abbrev pub networkRows : Layout
+networkRows =
+    optionsRow ∷  -- Options
+    []
+
 unfoldable pub networkLsa3 : List ℕ → ℕ → Body
 networkLsa3 b o =
     cond (ltb (length b) 4) raw
-    (decoded (options b o ∷ listing 16 (attachedRouter b o) o 4 (whole 4 b 4)) (after 4 (whole 4 b 4)))
+    (decoded (entriesAt networkRows b o 0 ++ listing 16 (attachedRouter b o) o 4 (whole 4 b 4)) (after 4 (whole 4 b 4)))
 
 -- The octets of a prefix of l bits, if they lie in b from p on.
 unfoldable pub prefixFits : List ℕ → ℕ → ℕ → Option ℕ
 prefixFits b l p = elim (octets l) [ none ↦ none | some n ↦ cond (leb (p + n) (length b)) (some n) none ]
 
--- RFC 5340 A.4.5: 0, Metric, PrefixLength, PrefixOptions, 0, Address Prefix.
+-- RFC 5340 A.4.5 and A.4.7: PrefixLength at 4, Address Prefix at 8.
+abbrev pub fixedPrefixFits : List ℕ → Option ℕ
+fixedPrefixFits b = prefixFits b (getD b 4 0) 8
+
+-- RFC 5340 A.4.1: in a list, PrefixLength at the entry's first byte, Address Prefix after 4 bytes.
+abbrev pub entryFits : List ℕ → ℕ → Option ℕ
+entryFits b p = prefixFits b (getD b p 0) (p + 4)
+
+-- RFC 5340 A.4.5: an Inter-Area-Prefix-LSA with a prefix of n octets.
+abbrev pub interAreaPrefixRows : ℕ → Layout
+interAreaPrefixRows n =
+    row 1 metric24 metric ∷  -- Metric
+    row 4 u8 prefixLength ∷  -- PrefixLength
+    row 5 u8 prefixOptions ∷  -- PrefixOptions
+    row 8 (ip6 n) addressPrefix ∷  -- Address Prefix
+    []
+
 unfoldable pub interAreaPrefixLsa : List ℕ → ℕ → Body
-interAreaPrefixLsa b o = elim (prefixFits b (getD b 4 0) 8) [
+interAreaPrefixLsa b o = elim (fixedPrefixFits b) [
   | none ↦ raw
-  | some n ↦ decoded (metric24At 17 b o 1 ∷ u8At 18 b o 4 ∷ u8At 19 b o 5 ∷ ip6At 20 b o 8 n ∷ []) (8 + n)
+  | some n ↦ decoded (entriesAt (interAreaPrefixRows n) b o 0) (8 + n)
 ]
 
--- RFC 5340 A.4.6: 0, Options, 0, Metric, Destination Router ID.
+-- RFC 5340 A.4.6: an Inter-Area-Router-LSA.
+abbrev pub interAreaRouterRows : Layout
+interAreaRouterRows =
+    optionsRow ∷  -- Options
+    row 5 metric24 metric ∷  -- Metric
+    row 8 ip4 21 ∷  -- Destination Router ID
+    []
+
 unfoldable pub interAreaRouterLsa : List ℕ → ℕ → Body
 interAreaRouterLsa b o =
     cond (ltb (length b) 12) raw
-    (decoded (options b o ∷ metric24At 17 b o 5 ∷ ip4At 21 b o 8 ∷ []) 12)
+    (decoded (entriesAt interAreaRouterRows b o 0) 12)
 
--- RFC 5340 A.4.7: whether an external has a Forwarding Address (F), an External Route Tag (T), and a Referenced Link State
--- ID (its Referenced LS Type is not zero).
+-- RFC 5340 A.4.7: whether an external has a Forwarding Address (F), an External Route Tag (T), and a Referenced Link
+-- State ID (its Referenced LS Type is not zero).
 abbrev pub hasForwarding : List ℕ → Bool
 hasForwarding b = eqb (getD b 0 0 / 0x02 % 2) 1
 
@@ -95,47 +178,96 @@ referencePlace b n = tagPlace b n + cond (hasTag b) 4 0
 abbrev pub externalEnd : List ℕ → ℕ → ℕ
 externalEnd b n = referencePlace b n + cond (hasReference b) 4 0
 
--- RFC 5340 A.4.7: the bits E, F and T.
+-- RFC 5340 A.4.7: the flags of an external.
+abbrev pub externalFlagRows : Layout
+externalFlagRows =
+    row 0 u8 flags ∷  -- flags
+    row 0 (bit 0x04) flagE ∷  -- E
+    row 0 (bit 0x02) 12 ∷  -- F
+    row 0 (bit 0x01) 13 ∷  -- T
+    []
+
 abbrev pub externalFlags : List ℕ → ℕ → List Entry
-externalFlags b o =
-    u8At 7 b o 0 ∷
-    bitAt 10 b o 0 0x04 ∷
-    bitAt 12 b o 0 0x02 ∷
-    bitAt 13 b o 0 0x01 ∷
+externalFlags b o = entriesAt externalFlagRows b o 0
+
+-- RFC 5340 A.4.7: what follows them, with a prefix of n octets.
+abbrev pub externalPrefixRows : ℕ → Layout
+externalPrefixRows n =
+    row 1 metric24 metric ∷  -- Metric
+    row 4 u8 prefixLength ∷  -- PrefixLength
+    row 5 u8 prefixOptions ∷  -- PrefixOptions
+    row 6 u16 referencedLsType ∷  -- Referenced LS Type
+    row 8 (ip6 n) addressPrefix ∷  -- Address Prefix
     []
 
--- RFC 5340 A.4.7: Metric, PrefixLength, PrefixOptions, Referenced LS Type, Address Prefix.
 abbrev pub externalPrefix : List ℕ → ℕ → ℕ → List Entry
-externalPrefix b o n =
-    metric24At 17 b o 1 ∷
-    u8At 18 b o 4 ∷
-    u8At 19 b o 5 ∷
-    u16At 22 b o 6 ∷
-    ip6At 20 b o 8 n ∷
+externalPrefix b o n = entriesAt (externalPrefixRows n) b o 0
+
+-- RFC 5340 A.4.7: what an external has after its prefix, each where it is present.
+abbrev pub forwardingRows : Layout
+forwardingRows =
+    row 0 (ip6 16) 23 ∷  -- Forwarding Address
     []
 
--- RFC 5340 A.4.7: Forwarding Address, External Route Tag, Referenced Link State ID, as present.
+abbrev pub tagRows : Layout
+tagRows =
+    row 0 u32 24 ∷  -- External Route Tag
+    []
+
+abbrev pub referencedRows : Layout
+referencedRows =
+    row 0 u32 referencedId ∷  -- Referenced Link State ID
+    []
+
+abbrev pub forwardingAddress : List ℕ → ℕ → ℕ → List Entry
+forwardingAddress b o n = cond (hasForwarding b) (entriesAt forwardingRows b o (forwardingPlace n)) []
+
+abbrev pub externalRouteTag : List ℕ → ℕ → ℕ → List Entry
+externalRouteTag b o n = cond (hasTag b) (entriesAt tagRows b o (tagPlace b n)) []
+
+abbrev pub referencedLinkStateId : List ℕ → ℕ → ℕ → List Entry
+referencedLinkStateId b o n = cond (hasReference b) (entriesAt referencedRows b o (referencePlace b n)) []
+
 abbrev pub externalOptional : List ℕ → ℕ → ℕ → List Entry
-externalOptional b o n =
-    cond (hasForwarding b) (ip6At 23 b o (forwardingPlace n) 16 ∷ []) [] ++
-    (cond (hasTag b) (u32At 24 b o (tagPlace b n) ∷ []) [] ++
-    cond (hasReference b) (u32At 25 b o (referencePlace b n) ∷ []) [])
+externalOptional b o n = forwardingAddress b o n ++ (externalRouteTag b o n ++ referencedLinkStateId b o n)
 
 unfoldable pub externalLsa3 : List ℕ → ℕ → Body
-externalLsa3 b o = elim (prefixFits b (getD b 4 0) 8) [
+externalLsa3 b o = elim (fixedPrefixFits b) [
   | none ↦ raw
   | some n ↦
       cond (ltb (length b) (externalEnd b n)) raw
       (decoded (externalFlags b o ++ (externalPrefix b o n ++ externalOptional b o n)) (externalEnd b n))
 ]
 
--- RFC 5340 A.4.1: PrefixLength, PrefixOptions, a field of 16 bits, Address Prefix. The field is a metric where m says so.
+-- RFC 5340 A.4.1: an entry of a list of prefixes, with n octets. Its field of 16 bits is a metric, or it is not shown.
+abbrev pub prefixRows : Layout
+prefixRows =
+    row 0 u8 80 ∷  -- PrefixLength
+    row 1 u8 81 ∷  -- PrefixOptions
+    []
+
+abbrev pub prefixMetricRows : Layout
+prefixMetricRows =
+    row 2 u16 82 ∷  -- Metric
+    []
+
+abbrev pub prefixAddressRows : ℕ → Layout
+prefixAddressRows n =
+    row 4 (ip6 n) 83 ∷  -- Address Prefix
+    []
+
+-- The entries of one at p, which has a metric where m says so.
+abbrev pub prefixMetric : Bool → List ℕ → ℕ → ℕ → List Entry
+prefixMetric m b o p = cond m (entriesAt prefixMetricRows b o p) []
+
+abbrev pub prefixFields : Bool → List ℕ → ℕ → ℕ → ℕ → List Entry
+prefixFields m b o p n = entriesAt prefixRows b o p ++ (prefixMetric m b o p ++ entriesAt (prefixAddressRows n) b o p)
+
+abbrev pub prefixInside : Bool → List ℕ → ℕ → Span → List Entry
+prefixInside m b o s = prefixFields m b o (s .at) (s .len - 4)
+
 unfoldable pub prefix : Bool → List ℕ → ℕ → Span → List Entry
-prefix m b o s = container 97 (o + s .at) (o + s .at + s .len) (
-    u8At 80 b o (s .at) ∷
-    u8At 81 b o (s .at + 1) ∷
-    (cond m (u16At 82 b o (s .at + 2) ∷ []) [] ++
-    (ip6At 83 b o (s .at + 4) (s .len - 4) ∷ [])))
+prefix m b o s = container 97 (o + s .at) (o + s .at + s .len) (prefixInside m b o s)
 
 -- The prefixes of a Link-LSA and of an Intra-Area-Prefix-LSA, each from its first on, under its own count.
 abbrev pub firstLinkPrefix : ℕ
@@ -150,25 +282,64 @@ firstAreaPrefix = 12
 abbrev pub areaPrefixes : List ℕ → List Span
 areaPrefixes b = cut prefixRule b (be16At b 0) firstAreaPrefix
 
--- RFC 5340 A.4.9: Rtr Priority, Options, Link-local Interface Address, # prefixes, prefixes without a metric.
+-- RFC 5340 A.4.9: a Link-LSA, before its prefixes, which have no metric.
+abbrev pub linkLsaRows : Layout
+linkLsaRows =
+    row 0 u8 routerPriority ∷  -- Rtr Priority
+    optionsRow ∷  -- Options
+    row 4 (ip6 16) 27 ∷  -- Link-local Interface Address
+    row 20 u32 numberOfPrefixes ∷  -- # prefixes
+    []
+
 unfoldable pub linkLsa : List ℕ → ℕ → Body
 linkLsa b o =
     cond (ltb (length b) firstLinkPrefix) raw
-    (decoded (u8At 26 b o 0 ∷ options b o ∷ ip6At 27 b o 4 16 ∷ u32At 28 b o 20 ∷ listing 29 (prefix false b o) o firstLinkPrefix (linkPrefixes b)) (after firstLinkPrefix (linkPrefixes b)))
+    (decoded (entriesAt linkLsaRows b o 0 ++ listing prefixes (prefix false b o) o firstLinkPrefix (linkPrefixes b)) (after firstLinkPrefix (linkPrefixes b)))
 
--- RFC 5340 A.4.10: Referenced LS Type, Referenced Link State ID, Referenced Advertising Router.
+-- RFC 5340 A.4.10: what the prefixes of an Intra-Area-Prefix-LSA belong to.
+abbrev pub referenceRows : Layout
+referenceRows =
+    row 2 u16 referencedLsType ∷  -- Referenced LS Type
+    row 4 u32 referencedId ∷  -- Referenced Link State ID
+    row 8 ip4 30 ∷  -- Referenced Advertising Router
+    []
+
 abbrev pub references : List ℕ → ℕ → List Entry
-references b o = u16At 22 b o 2 ∷ u32At 25 b o 4 ∷ ip4At 30 b o 8 ∷ []
+references b o = entriesAt referenceRows b o 0
 
--- RFC 5340 A.4.10: # Prefixes, references, prefixes with a metric.
+-- RFC 5340 A.4.10: an Intra-Area-Prefix-LSA, before its prefixes, which have a metric.
+abbrev pub intraAreaPrefixRows : Layout
+intraAreaPrefixRows =
+    row 0 wide16 numberOfPrefixes ∷  -- # Prefixes
+    referenceRows
+
 unfoldable pub intraAreaPrefixLsa : List ℕ → ℕ → Body
 intraAreaPrefixLsa b o =
     cond (ltb (length b) firstAreaPrefix) raw
-    (decoded (wide16At 28 b o 0 ∷ (references b o ++ listing 29 (prefix true b o) o firstAreaPrefix (areaPrefixes b))) (after firstAreaPrefix (areaPrefixes b)))
+    (decoded (entriesAt intraAreaPrefixRows b o 0 ++ listing prefixes (prefix true b o) o firstAreaPrefix (areaPrefixes b)) (after firstAreaPrefix (areaPrefixes b)))
 
 -- A body of TLVs after a fixed part of n bytes that has these entries.
 unfoldable pub tlvLsa : ℕ → List Entry → List ℕ → ℕ → Body
 tlvLsa n es b o = cond (ltb (length b) n) raw (decoded (es ++ tlvs b o n) (length b))
+
+-- RFC 8362 4.1, 4.2, 4.7 and 4.8: the bodies that have a fixed part before their TLVs.
+abbrev pub eRouterLsa : List ℕ → ℕ → Body
+eRouterLsa b o = tlvLsa 4 (entriesAt routerRows b o 0) b o
+
+abbrev pub eNetworkLsa : List ℕ → ℕ → Body
+eNetworkLsa b o = tlvLsa 4 (entriesAt networkRows b o 0) b o
+
+abbrev pub eLinkRows : Layout
+eLinkRows =
+    row 0 u8 routerPriority ∷  -- Rtr Priority
+    optionsRow ∷  -- Options
+    []
+
+abbrev pub eLinkLsa : List ℕ → ℕ → Body
+eLinkLsa b o = tlvLsa 4 (entriesAt eLinkRows b o 0) b o
+
+abbrev pub eIntraAreaPrefixLsa : List ℕ → ℕ → Body
+eIntraAreaPrefixLsa b o = tlvLsa 12 (references b o) b o
 
 -- The body of an LSA function code: RFC 5340 A.4.2.1, RFC 7770 2.2 (12), RFC 8362 4 (33 to 41), RFC 9513 7 (42).
 unfoldable pub body3 : (function : ℕ) → List ℕ → ℕ → Body
@@ -182,14 +353,14 @@ body3 f b o =
     (cond (eqb f 8) (linkLsa b o)
     (cond (eqb f 9) (intraAreaPrefixLsa b o)
     (cond (eqb f 12) (tlvLsa 0 [] b o)
-    (cond (eqb f 33) (tlvLsa 4 (routerFlags b o ++ (options b o ∷ [])) b o)
-    (cond (eqb f 34) (tlvLsa 4 (options b o ∷ []) b o)
+    (cond (eqb f 33) (eRouterLsa b o)
+    (cond (eqb f 34) (eNetworkLsa b o)
     (cond (eqb f 35) (tlvLsa 0 [] b o)
     (cond (eqb f 36) (tlvLsa 0 [] b o)
     (cond (eqb f 37) (tlvLsa 0 [] b o)
     (cond (eqb f 39) (tlvLsa 0 [] b o)
-    (cond (eqb f 40) (tlvLsa 4 (u8At 26 b o 0 ∷ options b o ∷ []) b o)
-    (cond (eqb f 41) (tlvLsa 12 (references b o) b o)
+    (cond (eqb f 40) (eLinkLsa b o)
+    (cond (eqb f 41) (eIntraAreaPrefixLsa b o)
     (cond (eqb f 42) (tlvLsa 0 [] b o)
     raw)))))))))))))))))
 

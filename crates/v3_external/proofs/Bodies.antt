@@ -8,8 +8,7 @@ use lib.Dec.{ltb}
 use lib.ListN.{length}
 use borrow.Author.Tests.{lt-ltb, le-ltb}
 use Rattle.format.specs.Body.Body.{decoded, raw}
-use Rattle.format.specs.V3.{externalLsa3, externalFlags, externalPrefix, externalOptional, externalEnd}
-use Rattle.v3_prefix.specs.Fits.{fixedPrefixFits}
+use Rattle.format.specs.V3.{externalLsa3, externalFlags, externalPrefix, externalOptional, externalEnd, fixedPrefixFits}
 
 module _ (b : List ℕ) (o : ℕ) where
   pub external-raw : fixedPrefixFits b ≡ none → externalLsa3 b o ≡ raw

@@ -4,9 +4,8 @@ use mathlib.Core.List.{List, _++_}
 use mathlib.Core.Path.{_≡_}
 use lib.ListN.{length}
 use Rattle.format.specs.Strip.{encode}
-use Rattle.format.specs.V3.{externalOptional}
+use Rattle.format.specs.V3.{forwardingAddress, externalRouteTag, referencedLinkStateId, externalOptional}
 use Rattle.format.proofs.Lengths.{length-both}
-use Rattle.v3_external.specs.Parts.{forwardingAddress, externalRouteTag, referencedLinkStateId}
 
 pub length-parts : (b : List ℕ) (o n : ℕ)
     → length (encode (externalOptional b o n)) ≡ length (encode (forwardingAddress b o n)) + (length (encode (externalRouteTag b o n)) + length (encode (referencedLinkStateId b o n)))

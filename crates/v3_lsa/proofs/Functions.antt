@@ -8,8 +8,7 @@ use mathlib.Core.Path.{_≡_, sym}
 use lib.ListN.{length}
 use borrow.Author.Tests.{ne-eqb, le-ltb}
 use Rattle.format.specs.Body.Body.{decoded, raw}
-use Rattle.format.specs.V3.{routerLsa3, networkLsa3, interAreaPrefixLsa, interAreaRouterLsa, externalLsa3, linkLsa, intraAreaPrefixLsa, tlvs, tlvLsa, body3}
-use Rattle.v3_lsa.specs.Parts.{eRouterLsa, eNetworkLsa, eLinkLsa, eIntraAreaPrefixLsa}
+use Rattle.format.specs.V3.{routerLsa3, networkLsa3, interAreaPrefixLsa, interAreaRouterLsa, externalLsa3, linkLsa, intraAreaPrefixLsa, tlvs, tlvLsa, body3, eRouterLsa, eNetworkLsa, eLinkLsa, eIntraAreaPrefixLsa}
 
 module _ (f : ℕ) (b : List ℕ) (o : ℕ) where
   pub router-body : f ≡ 1 → body3 f b o ≡ routerLsa3 b o

@@ -10,8 +10,7 @@ use lib.ListN.{length, getD}
 use borrow.Author.Tests.{le-leb, lt-leb, leb-true}
 use Rattle.format.specs.Cut.{standing, fitting, prefixRule}
 use Rattle.format.specs.Prefix.{octets}
-use Rattle.format.specs.V3.{prefixFits}
-use Rattle.v3_prefix.specs.Fits.{entryFits}
+use Rattle.format.specs.V3.{prefixFits, entryFits}
 
 module _ (b : List ℕ) (l p : ℕ) where
   -- a prefix fits where it has octets and they lie in the body

@@ -8,12 +8,10 @@ use mathlib.Core.Path.{_≡_, refl, ap, _∙_}
 use lib.ListN.{length, length-append}
 use Rattle.format.specs.Cut.{Span, cut, after, prefixRule}
 use Rattle.format.specs.Strip.{encode, code}
-use Rattle.format.specs.V3.{prefix}
+use Rattle.format.specs.V3.{prefixMetric, prefixFields, prefix, entryFits}
 use Rattle.format.proofs.Lengths.{length-part, length-prefix}
 use Rattle.format.proofs.Loop.{spread, spread-cons}
 use Rattle.format.proofs.Unique.{span, cut-none, cut-some}
-use Rattle.v3_prefix.specs.Fits.{entryFits}
-use Rattle.v3_prefix.specs.Parts.{prefixMetric, prefixFields}
 use Rattle.v3_prefix.proofs.Fits.{entry-stands, entry-ends}
 
 -- The parts of an entry.

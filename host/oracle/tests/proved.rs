@@ -2,8 +2,8 @@
 //! the reference says: bytes and entries are read from the files Layouts2.antt,
 //! Layouts3.antt and Listings.antt of its proofs.
 //!
-//! For a new example write its bytes there and no entries: the test fails, and
-//! prints the entries.
+//! For a new example write a row with its bytes there and no entries: the test
+//! fails, and prints the entries.
 
 use std::collections::{BTreeSet, HashMap};
 use std::fs;
@@ -11,8 +11,8 @@ use std::path::Path;
 
 use oracle::{Call, Outcome, Walk};
 
-/// Definitions of lists: the parameters, of which the last is the list's rest,
-/// and the words.
+/// Definitions of lists, and of entries before others: the parameters, of which
+/// the last is the list's rest, and the words.
 type Definitions = HashMap<String, (Vec<String>, Vec<String>)>;
 
 /// A file without its comments.
@@ -20,6 +20,7 @@ fn text(name: &str) -> String {
     let proofs = Path::new(env!("CARGO_MANIFEST_DIR")).join("../../crates/format/proofs");
     let text = fs::read_to_string(proofs.join(name)).expect(name);
     let lines = text.lines().filter(|l| !l.trim_start().starts_with("--"));
+    let lines = lines.map(|l| l.split_once("  -- ").map_or(l, |(code, _)| code));
     lines.map(|l| format!("{l}\n")).collect()
 }
 
@@ -37,15 +38,17 @@ fn words(text: &str) -> Vec<String> {
     words
 }
 
+/// The definitions of a file, after those that all the tables share.
 fn definitions(text: &str) -> Definitions {
-    let blocks = text.split("\n\n").filter_map(|block| {
-        let (_, clause) = block
-            .trim_start()
-            .strip_prefix("abbrev pub ")?
-            .split_once('\n')?;
-        let (head, body) = clause.split_once('=')?;
-        let head = words(head);
-        Some((head[0].clone(), (head[1..].to_vec(), words(body))))
+    let shared = self::text("Fields.antt");
+    let blocks = shared.split("\n\n").chain(text.split("\n\n"));
+    let blocks = blocks.filter_map(|block| {
+        let definition = block.trim_start().strip_prefix("abbrev pub ")?;
+        let (name, definition) = definition.split_once(" : ")?;
+        let (kind, clause) = definition.split_once('\n')?;
+        let list = !kind.contains('→') || kind.ends_with("List Entry → List Entry");
+        let (head, body) = clause.split_once('=').filter(|_| list)?;
+        Some((name.to_string(), (words(head).split_off(1), words(body))))
     });
     blocks.collect()
 }
@@ -71,12 +74,12 @@ fn expanded(words: &[String], definitions: &Definitions) -> Vec<String> {
     out
 }
 
-/// The fields of the file's record that state what a word comes to, each with its name.
+/// The fields of the file's last record that state what a word comes to, each with its name.
 fn statements(file: &str, of: &[&str]) -> Vec<(String, Vec<String>)> {
     let text = text(file);
     let definitions = definitions(&text);
     let record = text
-        .split("\n\n")
+        .rsplit("\n\n")
         .find(|b| b.trim_start().starts_with("pub record"));
     let fields = record.expect("a record").split("\n  pub ").skip(1);
     let fields = fields.filter_map(|field| {
@@ -86,6 +89,56 @@ fn statements(file: &str, of: &[&str]) -> Vec<(String, Vec<String>)> {
         stated.then(|| (name.to_string(), expanded(&statement, &definitions)))
     });
     fields.collect()
+}
+
+/// The words of a file's table.
+fn table(file: &str, name: &str) -> Vec<String> {
+    let definitions = definitions(&text(file));
+    expanded(&definitions[name].1, &definitions)
+}
+
+/// The rows of a table of LSAs as statements. A row has the LS type, the length
+/// of the body, the bytes that are not counted, the body's entries, and how many
+/// bytes are left; that of an opaque LSA an opaque type and a Link State ID
+/// after the LS type, all bytes counted, and nothing left.
+fn layouts(version: u8, file: &str) -> Vec<Vec<String>> {
+    let definitions = definitions(&text(file));
+    let mut rest = table(file, "bodies");
+    let mut rows = Vec::new();
+    while rest[0] != "[]" {
+        let opaque = rest.remove(0) == "opaque";
+        let ls_type = number(&rest.remove(0));
+        let (mut but, mut entries) = if opaque {
+            let (opaque_type, id) = (rest.remove(0), rest.remove(0));
+            let header = format!("header2 {ls_type} {id}");
+            let parts = format!("u8 8 1004 1005 {opaque_type} u32 9 1005 1008 0x060708");
+            (
+                format!("but 3 {ls_type} but 4 {opaque_type}"),
+                format!("{header} {parts}"),
+            )
+        } else if version == 2 {
+            (
+                format!("but 3 {ls_type}"),
+                format!("header2 {ls_type} 0x05060708"),
+            )
+        } else {
+            (
+                format!("but 2 {} but 3 {}", ls_type >> 8, ls_type & 0xff),
+                format!("header3 {ls_type}"),
+            )
+        };
+        let length = 20 + number(&rest.remove(0));
+        if !opaque {
+            but = format!("{but} {}", until(&mut rest, "[]").join(" "));
+        }
+        entries = format!("{entries} {}", until(&mut rest, "[]").join(" "));
+        let left = if opaque { "0".into() } else { rest.remove(0) };
+        let row = format!(
+            "lsaOf {version} counted {length} {but} [] 1000 ≡ accepted {entries} [] 1 {left}"
+        );
+        rows.push(expanded(&words(&row), &definitions));
+    }
+    rows
 }
 
 fn number(word: &str) -> u64 {
@@ -107,9 +160,18 @@ fn numbers(words: &[String]) -> Vec<u64> {
     words.iter().map(|w| number(w)).collect()
 }
 
+/// Bytes as they are written, and after them those that are counted: each one
+/// more than its place, but for some.
 fn bytes(words: &[String]) -> Vec<u8> {
-    let bytes = words.iter().map(|w| u8::try_from(number(w)));
-    bytes.collect::<Result<_, _>>().expect("bytes")
+    let byte = |w: &String| u8::try_from(number(w)).expect("a byte");
+    let Some(at) = words.iter().position(|w| w == "counted") else {
+        return words.iter().map(byte).collect();
+    };
+    let mut counted: Vec<u8> = (1..=byte(&words[at + 1])).collect();
+    for but in words[at + 2..].chunks(3) {
+        counted[number(&but[1]) as usize] = byte(&but[2]);
+    }
+    words[..at].iter().map(byte).chain(counted).collect()
 }
 
 /// An entry's words for a strip's kind, with the widths of its values.
@@ -211,9 +273,9 @@ fn compare(name: &str, mut statement: Vec<String>) -> (u8, Vec<u8>) {
 #[test]
 fn an_lsa_of_each_layout() {
     let mut seen = BTreeSet::new();
-    for file in ["Layouts2.antt", "Layouts3.antt"] {
-        for (name, statement) in statements(file, &["lsaOf"]) {
-            let (version, lsa) = compare(&name, statement);
+    for (version, file) in [(2, "Layouts2.antt"), (3, "Layouts3.antt")] {
+        for (i, statement) in layouts(version, file).into_iter().enumerate() {
+            let (version, lsa) = compare(&format!("{file}, row {i}"), statement);
             let function = u16::from_be_bytes([lsa[2], lsa[3]]) & 0x1fff;
             seen.insert(if version == 2 {
                 (2, lsa[3].into())
@@ -240,15 +302,15 @@ fn walks_at_an_offset() {
 /// The print follows the requirements, and what it says is the reference's.
 #[test]
 fn listings() {
-    let accepted = statements("Listings.antt", &["printed"])
-        .into_iter()
-        .filter(|(_, s)| !s.iter().any(|w| w.starts_with("refused")));
+    let table = table("Listings.antt", "printing");
+    let rows = table.split(|w| w == "prints").skip(1);
+    let accepted = rows.filter(|row| !row.iter().any(|w| w.starts_with("refused")));
     let accepted: Vec<_> = accepted.collect();
     assert_eq!(accepted.len(), 3);
-    for (name, mut statement) in accepted {
-        let input = bytes(&until(&mut statement, "[]")[1..]);
-        until(&mut statement, "lines");
-        let lines = until(&mut statement, "[]");
+    for row in accepted {
+        let mut row = row.to_vec();
+        let input = bytes(&until(&mut row, "[]"));
+        let lines = until(&mut row, "[]");
         let data = &input[2..];
         let call = Call {
             version: input[0],
@@ -265,13 +327,14 @@ fn listings() {
             tail,
         } = call.run()
         else {
-            panic!("{name} is refused");
+            panic!("{} is refused", lines[0]);
         };
+        assert_eq!(lines[0], format!("ok {records} {tail} {}", strip.len()));
         assert_eq!(
-            lines[0],
-            format!("ok {records} {tail} {}", strip.len()),
-            "{name}"
+            listing::strip(&lines[1..].join("\n")),
+            strip,
+            "{}",
+            lines[0]
         );
-        assert_eq!(listing::strip(&lines[1..].join("\n")), strip, "{name}");
     }
 }

@@ -1,7 +1,7 @@
 use native.Mathlib.Omega.{arith}
 use borrow.Author.Needs.{needs}
 use Rattle.format.proofs.Wrote.{then, encode-append}
-use Rattle.v3_external.specs.Parts.{forwardingAddress, externalRouteTag}
+use Rattle.format.specs.V3.{forwardingAddress, externalRouteTag}
 use Rattle.v3_external.proofs.Lengths.{length-parts}
 use Rattle.v3_external.proofs.push_external_optional.Statement.{statement}
 use Rattle.v3_external.proofs.push_external_optional.Tie as tie

@@ -1,10 +1,10 @@
 use native.Mathlib.Omega.{arith}
-use mathlib.Core.List.{[], _∷_}
 use lib.ListN.{length}
 use borrow.Author.Needs.{needs}
 use borrow.Author.Tests.{lt-ltb, le-ltb}
+use Rattle.format.specs.Layout.{entriesAt}
 use Rattle.format.specs.Strip.{encode, code}
-use Rattle.format.specs.V3.{tlvLsa, options}
+use Rattle.format.specs.V3.{networkRows, tlvLsa}
 use Rattle.body.proofs.Laws.{pushed-raw}
 use Rattle.v3_lsa.proofs.Bodies.{pushed-after}
 use Rattle.v3_lsa.proofs.push_e_network_lsa.Statement.{statement}
@@ -33,7 +33,7 @@ unfolding tlvLsa encode code
 returns-2 c =
     let s = c .before .before .before .before .before .before .before .before .before .before .before .args in
     let b = s .body .now in
-    rw (le-ltb (length b) 4 (omega arith)) (pushed-after (options b (s .o) ∷ []) _ _ (c .before .before .before .before .before .before .push-options .ensures) (c .before .before .push-tlv-body .ensures))
+    rw (le-ltb (length b) 4 (omega arith)) (pushed-after (entriesAt networkRows b (s .o) 0) _ _ (c .before .before .before .before .before .before .push-options .ensures) (c .before .before .push-tlv-body .ensures))
 
 pub push-e-network-lsa-spec : {M : Type 1} → statement M
 push-e-network-lsa-spec = tie.close (tie.spec returns push-options-requires push-tlv-body-requires (search needs) returns-2)

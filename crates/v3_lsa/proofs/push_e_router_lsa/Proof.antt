@@ -1,10 +1,10 @@
 use native.Mathlib.Omega.{arith}
-use mathlib.Core.List.{[], _∷_, _++_}
 use lib.ListN.{length}
 use borrow.Author.Needs.{needs}
 use borrow.Author.Tests.{lt-ltb, le-ltb}
+use Rattle.format.specs.Layout.{entriesAt}
 use Rattle.format.specs.Strip.{encode, code}
-use Rattle.format.specs.V3.{tlvLsa, routerFlags, options}
+use Rattle.format.specs.V3.{routerRows, tlvLsa}
 use Rattle.format.proofs.Wrote.{then}
 use Rattle.body.proofs.Laws.{pushed-raw}
 use Rattle.v3_lsa.proofs.Bodies.{pushed-after}
@@ -41,7 +41,7 @@ unfolding tlvLsa encode code
 returns-2 c =
     let s = c .before .before .before .before .before .before .before .before .before .before .before .before .before .before .before .args in
     let b = s .body .now in
-    rw (le-ltb (length b) 4 (omega arith)) (pushed-after (routerFlags b (s .o) ++ (options b (s .o) ∷ [])) _ _ (then (c .before .before .before .before .before .before .before .before .before .before .push-router-flags .ensures) (c .before .before .before .before .before .before .push-options .ensures)) (c .before .before .push-tlv-body .ensures))
+    rw (le-ltb (length b) 4 (omega arith)) (pushed-after (entriesAt routerRows b (s .o) 0) _ _ (then (c .before .before .before .before .before .before .before .before .before .before .push-router-flags .ensures) (c .before .before .before .before .before .before .push-options .ensures)) (c .before .before .push-tlv-body .ensures))
 
 pub push-e-router-lsa-spec : {M : Type 1} → statement M
 push-e-router-lsa-spec = tie.close (tie.spec returns push-router-flags-requires push-options-requires push-tlv-body-requires (search needs) returns-2)

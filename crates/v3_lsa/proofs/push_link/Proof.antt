@@ -1,8 +1,7 @@
 use borrow.Author.Needs.{needs}
 use Rattle.format.specs.Strip.{encode, code}
-use Rattle.format.specs.V3.{link}
+use Rattle.format.specs.V3.{link, linkFields}
 use Rattle.format.proofs.Lists.{contained}
-use Rattle.v3_lsa.specs.Parts.{linkFields}
 use Rattle.v3_lsa.proofs.push_link.Statement.{statement}
 use Rattle.v3_lsa.proofs.push_link.Tie as tie
 

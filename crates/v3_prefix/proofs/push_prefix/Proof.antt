@@ -3,10 +3,9 @@ use native.Mathlib.Omega.{arith}
 use mathlib.Core.Path.{_≡_}
 use borrow.Author.Needs.{needs}
 use Rattle.format.specs.Strip.{encode, code}
-use Rattle.format.specs.V3.{prefix}
+use Rattle.format.specs.V3.{prefix, prefixFields}
 use Rattle.format.proofs.Lists.{contained}
 use Rattle.format.proofs.Unique.{span}
-use Rattle.v3_prefix.specs.Parts.{prefixFields}
 use Rattle.format.proofs.Lengths.{length-prefix}
 use Rattle.v3_prefix.proofs.Lengths.{length-prefix-fields}
 use Rattle.v3_prefix.proofs.push_prefix.Statement.{statement}

@@ -5,11 +5,10 @@ use mathlib.Core.Path.{_≡_, refl}
 use lib.ListN.{length, getD}
 use borrow.Author.Needs.{needs}
 use Rattle.format.specs.Cut.{cut, prefixRule}
-use Rattle.format.specs.V3.{prefix}
+use Rattle.format.specs.V3.{prefix, entryFits}
 use Rattle.format.proofs.Loop.{Writing, spread, begin, turn, room, finish}
 use Rattle.format.proofs.Unique.{cut-none}
 use Rattle.format.proofs.Wrote.{kept}
-use Rattle.v3_prefix.specs.Fits.{entryFits}
 use Rattle.format.proofs.Prefix.{fits-inside}
 use Rattle.util.proofs.Laws.{some-of, none-of}
 use Rattle.v3_prefix.proofs.Fits.{entry-stands, entry-ends}

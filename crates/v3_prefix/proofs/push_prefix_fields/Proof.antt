@@ -2,7 +2,7 @@ use native.Mathlib.Omega.{arith}
 use borrow.Author.Needs.{needs}
 use Rattle.format.specs.Strip.{encode, code}
 use Rattle.format.proofs.Wrote.{then, encode-append}
-use Rattle.v3_prefix.specs.Parts.{prefixMetric}
+use Rattle.format.specs.V3.{prefixMetric}
 use Rattle.v3_prefix.proofs.Lengths.{length-prefix-metric, length-prefix-fields}
 use Rattle.v3_prefix.proofs.push_prefix_fields.Statement.{statement}
 use Rattle.v3_prefix.proofs.push_prefix_fields.Tie as tie

@@ -6,7 +6,7 @@ use borrow.Author.Needs.{needs}
 use Rattle.format.specs.Strip.{encode, code}
 use Rattle.format.proofs.Wrote.{then}
 use Rattle.body.proofs.Laws.{pushed-decoded, pushed-raw}
-use Rattle.v3_prefix.specs.Fits.{fixedPrefixFits}
+use Rattle.format.specs.V3.{fixedPrefixFits}
 use Rattle.v3_prefix_lsa.proofs.Bodies.{inter-area-prefix-raw, inter-area-prefix-decoded}
 use Rattle.format.proofs.Prefix.{fits-inside}
 use Rattle.util.proofs.Laws.{some-of, none-of}

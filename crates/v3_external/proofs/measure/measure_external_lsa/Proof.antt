@@ -5,8 +5,7 @@ use mathlib.Core.Path.{_≡_}
 use lib.ListN.{getD}
 use borrow.Author.Needs.{needs}
 use Rattle.format.specs.Strip.{encode, code}
-use Rattle.format.specs.V3.{hasForwarding, hasTag, hasReference}
-use Rattle.v3_prefix.specs.Fits.{fixedPrefixFits}
+use Rattle.format.specs.V3.{hasForwarding, hasTag, hasReference, fixedPrefixFits}
 use Rattle.v3_external.proofs.Bodies.{external-raw, external-short, external-decoded}
 use Rattle.format.proofs.Prefix.{fits-inside}
 use Rattle.util.proofs.Laws.{some-of, none-of}

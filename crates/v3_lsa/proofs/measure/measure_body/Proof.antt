@@ -1,12 +1,13 @@
 use Prim.Native.Nat.{ℕ, _≤_, _<_}
 use native.Mathlib.Omega.{arith}
-use mathlib.Core.List.{[], _∷_, _++_}
+use mathlib.Core.List.{[]}
 use mathlib.Core.Logic.{⊎-elim}
 use mathlib.Core.Path.{_≡_, refl}
 use borrow.Author.Needs.{needs}
 use Rattle.format.specs.Body.Body.{raw}
-use Rattle.format.specs.Strip.{u8At, encode, code}
-use Rattle.format.specs.V3.{routerFlags, options, references, tlvLsa, body3}
+use Rattle.format.specs.Layout.{entriesAt}
+use Rattle.format.specs.Strip.{encode, code}
+use Rattle.format.specs.V3.{routerRows, networkRows, eLinkRows, references, tlvLsa, body3}
 use Rattle.v3_lsa.proofs.Functions.{router-body, network-body, inter-area-prefix-body, inter-area-router-body, external-body, link-body, intra-area-prefix-body, e-router-body, e-network-body, e-link-body, e-intra-area-prefix-body, tlv-body, tlv-body-between, no-body}
 use Rattle.v3_lsa.proofs.measure.measure_body.Statement.{statement}
 use Rattle.v3_lsa.proofs.measure.measure_body.Tie as tie
@@ -46,19 +47,19 @@ returns-8 : tie.Need-returns-8
 unfolding encode code
 returns-8 c =
     let b = c .before .before .before .args .body .now in
-    λ o. rw (e-router-body _ _ o (c .before .match .keys9)) (c .measure-tlv-lsa .ensures o (routerFlags b o ++ (options b o ∷ [])) refl)
+    λ o. rw (e-router-body _ _ o (c .before .match .keys9)) (c .measure-tlv-lsa .ensures o (entriesAt routerRows b o 0) refl)
 
 returns-9 : tie.Need-returns-9
 unfolding encode code
 returns-9 c =
     let b = c .before .before .before .args .body .now in
-    λ o. rw (e-network-body _ _ o (c .before .match .keys10)) (c .measure-tlv-lsa2 .ensures o (options b o ∷ []) refl)
+    λ o. rw (e-network-body _ _ o (c .before .match .keys10)) (c .measure-tlv-lsa2 .ensures o (entriesAt networkRows b o 0) refl)
 
 returns-10 : tie.Need-returns-10
 unfolding encode code
 returns-10 c =
     let b = c .before .before .before .args .body .now in
-    λ o. rw (e-link-body _ _ o (c .before .match .keys11)) (c .measure-tlv-lsa3 .ensures o (u8At 26 b o 0 ∷ options b o ∷ []) refl)
+    λ o. rw (e-link-body _ _ o (c .before .match .keys11)) (c .measure-tlv-lsa3 .ensures o (entriesAt eLinkRows b o 0) refl)
 
 returns-11 : tie.Need-returns-11
 unfolding encode code

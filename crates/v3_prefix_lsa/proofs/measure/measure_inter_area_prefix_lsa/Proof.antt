@@ -4,7 +4,7 @@ use mathlib.Core.Path.{_≡_}
 use lib.ListN.{getD}
 use borrow.Author.Needs.{needs}
 use Rattle.format.specs.Strip.{encode, code}
-use Rattle.v3_prefix.specs.Fits.{fixedPrefixFits}
+use Rattle.format.specs.V3.{fixedPrefixFits}
 use Rattle.v3_prefix_lsa.proofs.Bodies.{inter-area-prefix-raw, inter-area-prefix-decoded}
 use Rattle.format.proofs.Prefix.{fits-inside}
 use Rattle.util.proofs.Laws.{some-of, none-of}
