@@ -7,6 +7,7 @@ pub mod Unique
 pub mod Rules
 pub mod CutInto
 pub mod Loop
+pub mod Rest
 pub mod Lists
 pub mod FixedLoop
 pub mod Prefix
