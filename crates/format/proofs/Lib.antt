@@ -14,6 +14,7 @@ pub mod Prefix
 pub mod Lengths
 pub mod Bounds
 pub mod Sizes
+pub mod Decided
 pub mod Newness
 pub mod Newer
 pub mod Text

@@ -1,7 +1,7 @@
 -- The law of a loop that takes the entries of a cut one by one: what it has visited, and the cut of what is left, are the
 -- whole cut. What it makes of the entries that it visits is free; to write and to sum up their bytes are two cases.
-use Prim.Native.Nat.{ℕ, zero, suc, _+_, _-_, _≤_, _<_}
-use native.Mathlib.Nat.{add-zero, not-suc-le-zero}
+use Prim.Native.Nat.{ℕ, _+_, _-_, _≤_, _<_}
+use native.Mathlib.Nat.{add-zero}
 use native.Mathlib.Omega.{arith}
 use mathlib.Core.Path.{_≡_, refl, sym, _∙_}
 use mathlib.Core.List.{List, [], _∷_, _++_, append-nil, append-assoc, flatMap}
@@ -11,7 +11,7 @@ use Rattle.format.specs.Strip.{Entry, encode}
 use Rattle.format.specs.Wrote.{Wrote}
 use Rattle.format.specs.Cut.{Span, Rule, cut, after}
 use Rattle.format.proofs.Wrote.{then, kept, encode-append}
-use Rattle.format.proofs.Unique.{span, cut-some}
+use Rattle.format.proofs.Unique.{span, cut-next}
 
 pub after-append : (p : ℕ) (xs ys : List Span) → after p (xs ++ ys) ≡ after (after p xs) ys
 unfolding after
@@ -38,10 +38,7 @@ module _ (r : Rule) (b : List ℕ) (count from : ℕ) where
   -- the next entry stands at the front of the rest
   pub going-next : {holds : List Span → Type 0} {pos left : ℕ} (n : ℕ) (g : Going r b count from holds pos left) → 0 < left → r b pos ≡ some n
       → g .visited ++ (span pos n ∷ cut r b (left - 1) (pos + n)) ≡ cut r b count from
-  going-next {left = zero} n g h e = absurd (not-suc-le-zero h)
-  going-next {pos = pos} {left = suc k} n g h e =
-      let q : suc k - 1 ≡ k = omega arith in
-      rw (q, ← cut-some r b k pos n e) (g .now-at .rest)
+  going-next {pos = pos} {left} n g h e = rw (← cut-next r b left pos n h e) (g .now-at .rest)
 
   -- a turn: the entry at pos is visited
   pub going-turn : {holds holds′ : List Span → Type 0} {pos left : ℕ} (n : ℕ) (g : Going r b count from holds pos left) → 0 < left → r b pos ≡ some n
