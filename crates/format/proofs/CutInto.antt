@@ -94,7 +94,10 @@ module _ (r : Rule) (b : List ℕ) (standsAt : ℕ → ℕ → Type 0) (says : (
 
   each-stands : {p : ℕ} {ss : List Span} → Stands r b p ss → (s : Span) → List·Memᴰ s ss → standsAt (s .at) (s .len)
   each-stands no-more s m = absurd (List·Memᴰ·not-nil m)
-  each-stands (one-more {s = x} e f t) s m = ⊎-elim {C = standsAt (s .at) (s .len)} (λ q. subst (λ (y : Span). standsAt (y .at) (y .len)) (sym q) (rw e (says _ _ .0 f))) (λ k. each-stands t s k) (List·Memᴰ·cases-cons m)
+  each-stands (one-more {s = x} e f t) s m = ⊎-elim {C = standsAt (s .at) (s .len)}
+      (λ q. subst (λ (y : Span). standsAt (y .at) (y .len)) (sym q) (rw e (says _ _ .0 f)))
+      (λ k. each-stands t s k)
+      (List·Memᴰ·cases-cons m)
 
   pub cut-into : (count p tail : ℕ) → after p (cut r b count p) ≤ length b → tail ≡ length b - after p (cut r b count p)
       → CutInto standsAt (length b) p count (cut r b count p) (after p (cut r b count p)) tail

@@ -15,10 +15,10 @@ use Rattle.format.specs.Walks.{Outcome, Answer, answerOf, stripOf, unles
 use Rattle.format.specs.Walks.Outcome.{refused, accepted}
 use Rattle.format.specs.Refusals.{Refusals}
 use Rattle.format.specs.Host.{lengthIn, numberIn, Host, HeadersStrip, UpdateStrip, LsaStrip}
-use Rattle.format.proofs.Refusals.{refusals, refused-leaves, not-less}
+use Rattle.format.proofs.Refusals.{refusals, refused-leaves, Taken, taken}
 use Rattle.format.proofs.Wrote.{sets-front}
 use Rattle.format.proofs.Sizes.{headers-size, update-size, lsa-size}
-use Rattle.format.proofs.Walks.{Taken, taken, headers-show, update-shows, one-shows}
+use Rattle.format.proofs.Walks.{headers-show, update-shows, one-shows}
 
 -- Packing loses nothing: the length and the number come back, and the other bits are zero.
 record Unpacked (a : Answer) (r : ℕ) : Type 0 where
@@ -59,12 +59,12 @@ module _ (v : ℕ) (d : List ℕ) (o least : ℕ) (es : List Entry) (records tai
       go t true p f q =
           let n = eqb-true (a .number) 0 p in
           let c = t .numbers .zero .0 n in
-          let l = h (not-less (c .3)) (not-less (c .1)) in
+          let l = h (let z = c .3 in omega arith) (let z = c .1 in omega arith) in
           omega (arith, t .length-of (inl n))
       go t false p true q =
           let n = eqb-true (a .number) 5 q in
           let c = t .numbers .five .0 n in
-          let l = h (not-less (c .3)) (not-less (c .1)) in
+          let l = h (let z = c .3 in omega arith) (let z = c .1 in omega arith) in
           omega (arith, t .length-of (inr n))
       go t false p false q = omega (arith, t .no-length (eqb-false (a .number) 0 p) (eqb-false (a .number) 5 q))
 

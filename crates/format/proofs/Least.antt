@@ -1,5 +1,5 @@
 -- A body is raw exactly where its type has no layout or it has too few bytes for it, in the requirements' numbers.
-use Prim.Native.Nat.{ℕ, zero, suc, _+_, _*_, _/_, _≤_, _<_}
+use Prim.Native.Nat.{ℕ, _+_, _*_, _/_, _≤_}
 use native.Mathlib.Omega.{arith}
 use mathlib.Core.Path.{_≡_, refl, sym, ap}
 use mathlib.Core.Bool.{Bool, true, false, cond}
@@ -65,13 +65,9 @@ inter-area-prefix b o = with-prefix b 0 (λ n. decoded _ (8 + n)) (λ n e l. sym
 referred : (r : ℕ) → _≡_ {A = ℕ} (cond (ltb 0 r) 4 0) (cond (eqb r 0) 0 4)
 referred r = go (eqb r 0) refl
   where
-    positive : (n : ℕ) → (n ≡ 0 → ⊥) → 0 < n
-    positive zero h = absurd (h refl)
-    positive (suc n) h = omega arith
-
     go : (t : Bool) → eqb r 0 ≡ t → _≡_ {A = ℕ} (cond (ltb 0 r) 4 0) (cond t 0 4)
     go true e = let z = eqb-true r 0 e in rw (le-ltb 0 r (omega arith))
-    go false e = let z = eqb-false r 0 e in rw (lt-ltb 0 r (positive r z))
+    go false e = let z = eqb-false r 0 e in rw (lt-ltb 0 r (omega arith))
 
 external3 : (b : List ℕ) (o : ℕ) → isRaw (v3.externalLsa3 b o) ≡ tooShort (withPrefix (getD b 4 0) (optionals b)) (length b)
 unfolding v3.externalLsa3

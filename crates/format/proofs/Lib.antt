@@ -7,12 +7,14 @@ pub mod Unique
 pub mod Rules
 pub mod CutInto
 pub mod Loop
+pub mod Rest
 pub mod Lists
 pub mod FixedLoop
 pub mod Prefix
 pub mod Lengths
 pub mod Bounds
 pub mod Sizes
+pub mod Decided
 pub mod Newness
 pub mod Newer
 pub mod Text

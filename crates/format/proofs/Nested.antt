@@ -1,4 +1,5 @@
--- Laws of well-nested entries, and of the ranges of containers.
+-- Entries that are well nested, with what follows: an id that no container has is not there; and laws of the ranges of
+-- containers.
 use Prim.Native.Nat.{ℕ, _+_}
 use native.Mathlib.Omega.{arith}
 use mathlib.Core.Path.{_≡_, refl, sym, ap, _∙_}

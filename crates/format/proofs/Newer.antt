@@ -1,5 +1,6 @@
 -- Newness answers by the rules of RFC 2328 13.1.
 use Prim.Native.Nat.{ℕ, _+_, _≤_, _<_}
+use native.Mathlib.Numerals.{lt-of-le-of-ne}
 use native.Mathlib.Omega.{arith}
 use mathlib.Core.Path.{_≡_, refl, sym, ap, _∙_}
 use mathlib.Core.Logic.{_↔_, _⊎_, inl, inr, ⊎-elim}
@@ -30,13 +31,6 @@ rank-below x y h k l = go (ltb x 2147483648) refl (ltb y 2147483648) refl
 
 rank-equal : (x y : ℕ) → x < 4294967296 → y < 4294967296 → signedRank x ≡ signedRank y → x ≡ y
 rank-equal x y h k e = omega arith
-
-le-ne : {a b : ℕ} → a ≤ b → (a ≡ b → ⊥) → a < b
-le-ne {a} {b} h n = go (ltb a b) refl
-  where
-    go : (t : Bool) → ltb a b ≡ t → a < b
-    go true e = ltb-true a b e
-    go false e = let l = ltb-false a b e in absurd (n (omega arith))
 
 -- What is compared where neither age is refused.
 abbrev ranked : Header → Header → Newness
@@ -86,8 +80,10 @@ module _ (x y : Header) (h : x .sequenceNumber < 4294967296) (k : y .sequenceNum
           larger-says Says _ _ _ (λ l. (a, b, by-sequence (rank-below _ _ k h l))) (λ l. (a, b, by-sequence (rank-below _ _ h k l))) (λ r.
           let e = rank-equal _ _ h k r in
           larger-says Says _ _ _ (λ l. (a, b, by-checksum e l)) (λ l. (a, b, by-checksum (sym e) l)) (λ c.
-          aged-says Says _ _ _ (λ m n. (a, b, by-max-age e c m (le-ne b n))) (λ n m. (a, b, by-max-age (sym e) (sym c) m (le-ne a n))) (λ w.
-          younger-says Says _ _ (λ l. (a, b, by-age e c (le-ne b (λ z. let q = w .1 z in omega arith)) l)) (λ l. (a, b, by-age (sym e) (sym c) (le-ne a (λ z. let q = w .0 z in omega arith)) l)) (a, b))))
+          aged-says Says _ _ _ (λ m n. (a, b, by-max-age e c m (lt-of-le-of-ne b n))) (λ n m. (a, b, by-max-age (sym e) (sym c) m (lt-of-le-of-ne a n))) (λ w.
+          younger-says Says _ _
+          (λ l. (a, b, by-age e c (lt-of-le-of-ne b (λ z. let q = w .1 z in omega arith)) l))
+          (λ l. (a, b, by-age (sym e) (sym c) (lt-of-le-of-ne a (λ z. let q = w .0 z in omega arith)) l)) (a, b))))
 
       go : (s : Bool) → ltb 3600 (x .age) ≡ s → (t : Bool) → ltb 3600 (y .age) ≡ t
           → Says (cond s (refused 11) (cond t (refused 11) (ranked x y)))

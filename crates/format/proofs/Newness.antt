@@ -1,6 +1,6 @@
 -- What a reader expects of newness: swapping the headers swaps the answer, and a header is the same as itself. Being the
 -- same is not transitive, because of MaxAgeDiff. And when a header is not read, and when two have no newness.
-use Prim.Native.Nat.{ℕ, _+_, _≤_}
+use Prim.Native.Nat.{ℕ, _+_, _≤_, _<_}
 use native.Mathlib.Omega.{arith}
 use mathlib.Core.Path.{_≡_, refl}
 use mathlib.Core.Logic.{_⊎_, inl, inr, ⊎-elim}
@@ -8,13 +8,15 @@ use mathlib.Core.Bool.{Bool, true, false, cond}
 use mathlib.Core.List.{List, [], _∷_}
 use lib.ListN.{length}
 use lib.Dec.{ltb, eqb}
-use borrow.Author.Tests.{ltb-true, ltb-false, eqb-true, eqb-false, le-ltb}
+use borrow.Author.Tests.{ltb-true, le-ltb}
 use Rattle.format.specs.Bytes.{be16At}
 use Rattle.format.specs.Header.{Header, Newness, newness, larger, aged, younger, signedRank, maxAge, maxAgeDiff}
 use Rattle.format.specs.Header.{Reading, readHeader, newnessAt, newnessRead, isKnown, headerAt}
 use Rattle.format.specs.Refusals.{readNumber, newnessNumber, ReadRefusals, NewnessRefusals}
 use Rattle.format.specs.Header.Newness.{first, second, same, refused}
 use Rattle.format.specs.Header.Reading.{header}
+use Rattle.format.proofs.Decided.{Decided, less, either, version}
+use Rattle.format.proofs.Decided.Decided.{holds, fails}
 
 -- The answer for the headers the other way round.
 abbrev pub swapped : Newness → Newness
@@ -80,23 +82,6 @@ pub same-is-not-transitive : (newness (aging 0) (aging 900) ≡ same) × (newnes
 unfolding newness
 same-is-not-transitive = (refl, refl, refl)
 
--- A version is 2 or 3, or it is neither, as the test says.
-data Version (v : ℕ) : Bool → Type 0 where
-  known : (v ≡ 2) ⊎ (v ≡ 3) → Version v true
-  unknown : (v ≡ 2 → ⊥) → (v ≡ 3 → ⊥) → Version v false
-
-version : (v : ℕ) → Version v (isKnown v)
-version v = go (eqb v 2) refl (eqb v 3) refl
-  where
-    go : (s : Bool) → eqb v 2 ≡ s → (t : Bool) → eqb v 3 ≡ t → Version v (cond s true t)
-    go true e t f = known (inl (eqb-true v 2 e))
-    go false e true f = known (inr (eqb-true v 3 f))
-    go false e false f = unknown (eqb-false v 2 e) (eqb-false v 3 f)
-
--- neither 2 nor 3, and one of them
-no-known : {v : ℕ} → (v ≡ 2 → ⊥) → (v ≡ 3 → ⊥) → (v ≡ 2) ⊎ (v ≡ 3) → ⊥
-no-known m n k = ⊎-elim m n k
-
 read-number : (v : ℕ) (b : List ℕ) → readNumber (readHeader v b) ≡ cond (isKnown v) (cond (ltb (length b) 20) 4 0) 1
 unfolding readHeader
 read-number v b = go (isKnown v) (ltb (length b) 20) _
@@ -107,26 +92,24 @@ read-number v b = go (isKnown v) (ltb (length b) 20) _
     go false t h = refl
 
 pub read-refusals : (v : ℕ) (b : List ℕ) → ReadRefusals v b (readNumber (readHeader v b))
-read-refusals v b = rw (read-number v b) (table (version v) (ltb (length b) 20) refl)
+read-refusals v b = rw (read-number v b) (table (version v) (less (length b) 20))
   where
-    table : {s : Bool} → Version v s → (t : Bool) → ltb (length b) 20 ≡ t → ReadRefusals v b (cond s (cond t 4 0) 1)
-    table (unknown m n) t e = record {
-      one = (λ h. (m, n), λ p. refl);
-      four = (λ h. absurd (omega arith), λ p. absurd (no-known m n (p .0)));
-      zero = (λ h. absurd (omega arith), λ p. absurd (no-known m n (p .0)));
+    table : {s t : Bool} → Decided ((v ≡ 2) ⊎ (v ≡ 3)) s → Decided (length b < 20) t → ReadRefusals v b (cond s (cond t 4 0) 1)
+    table (fails n) d = record {
+      one = (λ h. (λ e. n (inl e), λ e. n (inr e)), λ p. refl);
+      four = (λ h. absurd (omega arith), λ p. absurd (n (p .0)));
+      zero = (λ h. absurd (omega arith), λ p. absurd (n (p .0)));
     }
-    table (known k) true e =
-        let l = ltb-true (length b) 20 e in record {
-          one = (λ h. absurd (omega arith), λ p. absurd (no-known (p .0) (p .1) k));
-          four = (λ h. (k, l), λ p. refl);
-          zero = (λ h. absurd (omega arith), λ p. absurd (p .1 l));
-        }
-    table (known k) false e =
-        let l = ltb-false (length b) 20 e in record {
-          one = (λ h. absurd (omega arith), λ p. absurd (no-known (p .0) (p .1) k));
-          four = (λ h. absurd (omega arith), λ p. absurd (omega (arith, p .1)));
-          zero = (λ h. (k, λ i. omega arith), λ p. refl);
-        }
+    table (holds k) (holds l) = record {
+      one = (λ h. absurd (omega arith), λ p. absurd (⊎-elim (p .0) (p .1) k));
+      four = (λ h. (k, l), λ p. refl);
+      zero = (λ h. absurd (omega arith), λ p. absurd (p .1 l));
+    }
+    table (holds k) (fails l) = record {
+      one = (λ h. absurd (omega arith), λ p. absurd (⊎-elim (p .0) (p .1) k));
+      four = (λ h. absurd (omega arith), λ p. absurd (l (p .1)));
+      zero = (λ h. (k, l), λ p. refl);
+    }
 
 -- whatever is compared, an answer without a refusal stays one
 chosen : (s t : Bool) (n : Newness) → newnessNumber n ≡ 0 → newnessNumber (cond s first (cond t second n)) ≡ 0
@@ -140,7 +123,7 @@ aged-chosen true false n e = refl
 aged-chosen false true n e = refl
 aged-chosen false false n e = e
 
-header-number : (x y : Header) → newnessNumber (newness x y) ≡ cond (ltb 3600 (x .age)) 11 (cond (ltb 3600 (y .age)) 11 0)
+header-number : (x y : Header) → newnessNumber (newness x y) ≡ cond (cond (ltb 3600 (x .age)) true (ltb 3600 (y .age))) 11 0
 unfolding newness
 header-number x y = go (ltb 3600 (x .age)) (ltb 3600 (y .age)) _
     (chosen (ltb (signedRank (y .sequenceNumber)) (signedRank (x .sequenceNumber))) (ltb (signedRank (x .sequenceNumber)) (signedRank (y .sequenceNumber))) _
@@ -148,7 +131,7 @@ header-number x y = go (ltb 3600 (x .age)) (ltb 3600 (y .age)) _
     (aged-chosen (eqb (x .age) 3600) (eqb (y .age) 3600) _
     (chosen (ltb (x .age + 900) (y .age)) (ltb (y .age + 900) (x .age)) same refl))))
   where
-    go : (s t : Bool) (n : Newness) → newnessNumber n ≡ 0 → newnessNumber (cond s (refused 11) (cond t (refused 11) n)) ≡ cond s 11 (cond t 11 0)
+    go : (s t : Bool) (n : Newness) → newnessNumber n ≡ 0 → newnessNumber (cond s (refused 11) (cond t (refused 11) n)) ≡ cond (cond s true t) 11 0
     go true t n e = refl
     go false true n e = refl
     go false false n e = e
@@ -162,13 +145,13 @@ age-at v b = go (eqb v 2) _ _ refl refl
     go false g h e f = f
 
 number-at : (v : ℕ) (x y : List ℕ) → newnessNumber (newnessAt v x y)
-    ≡ cond (isKnown v) (cond (ltb (length x) 20) 4 (cond (ltb (length y) 20) 4 (cond (ltb 3600 (be16At x 0)) 11 (cond (ltb 3600 (be16At y 0)) 11 0)))) 1
+    ≡ cond (isKnown v) (cond (cond (ltb (length x) 20) true (ltb (length y) 20)) 4 (cond (cond (ltb 3600 (be16At x 0)) true (ltb 3600 (be16At y 0))) 11 0)) 1
 unfolding newnessAt readHeader
 number-at v x y = go (isKnown v) (ltb (length x) 20) (ltb (length y) 20) (headerAt v x) (headerAt v y) (age-at v x) (age-at v y)
   where
     go : (s t u : Bool) (g h : Header) {m n : ℕ} → g .age ≡ m → h .age ≡ n
         → newnessNumber (newnessRead (cond s (cond t (Reading.refused 4) (header g)) (Reading.refused 1)) (cond s (cond u (Reading.refused 4) (header h)) (Reading.refused 1)))
-        ≡ cond s (cond t 4 (cond u 4 (cond (ltb 3600 m) 11 (cond (ltb 3600 n) 11 0)))) 1
+        ≡ cond s (cond (cond t true u) 4 (cond (cond (ltb 3600 m) true (ltb 3600 n)) 11 0)) 1
     go false t u g h e f = refl
     go true true u g h e f = refl
     go true false true g h e f = refl
@@ -177,60 +160,34 @@ number-at v x y = go (isKnown v) (ltb (length x) 20) (ltb (length y) 20) (header
 pub newness-refusals : (v : ℕ) (x y : List ℕ) → NewnessRefusals v x y (newnessNumber (newnessAt v x y))
 newness-refusals v x y =
     rw (number-at v x y)
-    (table (version v) (ltb (length x) 20) refl (ltb (length y) 20) refl (ltb 3600 (be16At x 0)) refl (ltb 3600 (be16At y 0)) refl)
+    (table (version v) (either (less (length x) 20) (less (length y) 20)) (either (less 3600 (be16At x 0)) (less 3600 (be16At y 0))))
   where
-    table : {s : Bool} → Version v s
-        → (t : Bool) → ltb (length x) 20 ≡ t → (u : Bool) → ltb (length y) 20 ≡ u
-        → (a : Bool) → ltb 3600 (be16At x 0) ≡ a → (b : Bool) → ltb 3600 (be16At y 0) ≡ b
-        → NewnessRefusals v x y (cond s (cond t 4 (cond u 4 (cond a 11 (cond b 11 0)))) 1)
-    table (unknown m n) t d u e a f b g = record {
-      one = (λ h. (m, n), λ p. refl);
-      four = (λ h. absurd (omega arith), λ p. absurd (no-known m n (p .0)));
-      eleven = (λ h. absurd (omega arith), λ p. absurd (no-known m n (p .0)));
-      zero = (λ h. absurd (omega arith), λ p. absurd (no-known m n (p .0)));
+    table : {s t a : Bool} → Decided ((v ≡ 2) ⊎ (v ≡ 3)) s → Decided ((length x < 20) ⊎ (length y < 20)) t → Decided ((3600 < be16At x 0) ⊎ (3600 < be16At y 0)) a
+        → NewnessRefusals v x y (cond s (cond t 4 (cond a 11 0)) 1)
+    table (fails n) d e = record {
+      one = (λ h. (λ z. n (inl z), λ z. n (inr z)), λ p. refl);
+      four = (λ h. absurd (omega arith), λ p. absurd (n (p .0)));
+      eleven = (λ h. absurd (omega arith), λ p. absurd (n (p .0)));
+      zero = (λ h. absurd (omega arith), λ p. absurd (n (p .0)));
     }
-    table (known k) true d u e a f b g =
-        let i = ltb-true (length x) 20 d in record {
-          one = (λ h. absurd (omega arith), λ p. absurd (no-known (p .0) (p .1) k));
-          four = (λ h. (k, inl i), λ p. refl);
-          eleven = (λ h. absurd (omega arith), λ p. absurd (p .1 i));
-          zero = (λ h. absurd (omega arith), λ p. absurd (p .1 i));
-        }
-    table (known k) false d true e a f b g =
-        let i = ltb-true (length y) 20 e in record {
-          one = (λ h. absurd (omega arith), λ p. absurd (no-known (p .0) (p .1) k));
-          four = (λ h. (k, inr i), λ p. refl);
-          eleven = (λ h. absurd (omega arith), λ p. absurd (p .2 i));
-          zero = (λ h. absurd (omega arith), λ p. absurd (p .2 i));
-        }
-    table (known k) false d false e true f b g =
-        let i = ltb-false (length x) 20 d in
-        let j = ltb-false (length y) 20 e in
-        let l = ltb-true 3600 (be16At x 0) f in record {
-          one = (λ h. absurd (omega arith), λ p. absurd (no-known (p .0) (p .1) k));
-          four = (λ h. absurd (omega arith), λ p. absurd (⊎-elim (λ q. omega arith) (λ q. omega arith) (p .1)));
-          eleven = (λ h. (k, λ q. omega arith, λ q. omega arith, inl l), λ p. refl);
-          zero = (λ h. absurd (omega arith), λ p. absurd (p .3 l));
-        }
-    table (known k) false d false e false f true g =
-        let i = ltb-false (length x) 20 d in
-        let j = ltb-false (length y) 20 e in
-        let l = ltb-true 3600 (be16At y 0) g in record {
-          one = (λ h. absurd (omega arith), λ p. absurd (no-known (p .0) (p .1) k));
-          four = (λ h. absurd (omega arith), λ p. absurd (⊎-elim (λ q. omega arith) (λ q. omega arith) (p .1)));
-          eleven = (λ h. (k, λ q. omega arith, λ q. omega arith, inr l), λ p. refl);
-          zero = (λ h. absurd (omega arith), λ p. absurd (p .4 l));
-        }
-    table (known k) false d false e false f false g =
-        let i = ltb-false (length x) 20 d in
-        let j = ltb-false (length y) 20 e in
-        let l = ltb-false 3600 (be16At x 0) f in
-        let m = ltb-false 3600 (be16At y 0) g in record {
-          one = (λ h. absurd (omega arith), λ p. absurd (no-known (p .0) (p .1) k));
-          four = (λ h. absurd (omega arith), λ p. absurd (⊎-elim (λ q. omega arith) (λ q. omega arith) (p .1)));
-          eleven = (λ h. absurd (omega arith), λ p. absurd (⊎-elim (λ q. omega arith) (λ q. omega arith) (p .3)));
-          zero = (λ h. (k, λ q. omega arith, λ q. omega arith, λ q. omega arith, λ q. omega arith), λ p. refl);
-        }
+    table (holds k) (holds l) e = record {
+      one = (λ h. absurd (omega arith), λ p. absurd (⊎-elim (p .0) (p .1) k));
+      four = (λ h. (k, l), λ p. refl);
+      eleven = (λ h. absurd (omega arith), λ p. absurd (⊎-elim (p .1) (p .2) l));
+      zero = (λ h. absurd (omega arith), λ p. absurd (⊎-elim (p .1) (p .2) l));
+    }
+    table (holds k) (fails l) (holds m) = record {
+      one = (λ h. absurd (omega arith), λ p. absurd (⊎-elim (p .0) (p .1) k));
+      four = (λ h. absurd (omega arith), λ p. absurd (l (p .1)));
+      eleven = (λ h. (k, λ z. l (inl z), λ z. l (inr z), m), λ p. refl);
+      zero = (λ h. absurd (omega arith), λ p. absurd (⊎-elim (p .3) (p .4) m));
+    }
+    table (holds k) (fails l) (fails m) = record {
+      one = (λ h. absurd (omega arith), λ p. absurd (⊎-elim (p .0) (p .1) k));
+      four = (λ h. absurd (omega arith), λ p. absurd (l (p .1)));
+      eleven = (λ h. absurd (omega arith), λ p. absurd (m (p .3)));
+      zero = (λ h. (k, λ z. l (inl z), λ z. l (inr z), λ z. m (inl z), λ z. m (inr z)), λ p. refl);
+    }
 
 -- The bytes of a header with this last byte of its LS sequence number, 0x80000000 and that.
 abbrev instance : ℕ → List ℕ

@@ -1,6 +1,7 @@
 -- The part of a packet: what its number says; and that every accepted walk's strip gives back the walk's entries, and
 -- with those of kind 8 the bytes of its data.
 use Prim.Native.Nat.{ℕ, zero, suc, _+_, _-_, _≤_, _<_}
+use native.Mathlib.Nat.{lt-of-not-le}
 use native.Mathlib.Omega.{arith}
 use mathlib.Core.Path.{_≡_, refl, ap, _∙_}
 use mathlib.Core.Logic.{_↔_, _⊎_, inl, inr, ⊎-elim}
@@ -9,21 +10,21 @@ use mathlib.Core.List.{List, [], _∷_, _++_, List·Memᴰ}
 use mathlib.Core.Option.{Option, none, some}
 use lib.ListN.{length, take, drop, length-append, length-drop}
 use lib.Seq.{length-take-le, drop-append-add, drop-append-le, take-append-le}
-use lib.Dec.{ltb, leb, eqb}
-use borrow.Author.Tests.{ltb-true, ltb-false, leb-true, leb-false, le-ltb, le-leb, lt-leb, eqb-true, eqb-false}
+use lib.Dec.{ltb, leb}
+use borrow.Author.Tests.{ltb-true, ltb-false, leb-true, leb-false, le-ltb, le-leb, lt-leb}
 use Rattle.format.specs.Bytes.{part}
-use Rattle.format.specs.Strip.{Entry, Step, encode, stepAt, readFrom, readAll}
+use Rattle.format.specs.Strip.{Entry, Step, stepAt, readFrom, readAll}
 use Rattle.format.specs.Strip.Entry.{bytes}
 use Rattle.format.specs.Strip.Step.{entry, end, refused}
 use Rattle.format.specs.Header.{headerSize}
 use Rattle.format.specs.Walks.{answerOf, stripOf, unless, refusal, lsaEntries, headerObject, lsaObject, outer, headers, lsas, headersOf, updateOf, lsaOf}
-use Rattle.format.specs.Walks.Outcome.{accepted, refused as refusing}
+use Rattle.format.specs.Walks.Outcome.{accepted}
 use Rattle.format.specs.Laid.{Laid, anything}
 use Rattle.format.specs.Part.{liesIn, partNumber, partPlace, partOf, Names, Reads, GivesBack}
 use Rattle.format.specs.Part.Reads.{ends, steps}
 use Rattle.format.specs.Refusals.{Parts}
 use Rattle.format.proofs.Shown.{read-strip}
-use Rattle.format.proofs.Refusals.{limits, not-le}
+use Rattle.format.proofs.Refusals.{limits, taken}
 use Rattle.format.proofs.Laid.{weaken, laid-member}
 use Rattle.format.proofs.LaidLsa.{laid-lsa}
 use Rattle.format.proofs.LaidWalks.{laid-headers, laid-update}
@@ -63,8 +64,14 @@ part-numbers n o s e = go (liesIn n o s e) refl
 pub parts : (packet : List ℕ) (o s e : ℕ) → Parts packet o s e
 unfolding partNumber partOf partPlace
 parts packet o s e = record {
-  nine = (λ h. outside (part-numbers (length packet) o s e .1 .0 h), λ h. part-numbers (length packet) o s e .1 .1 (λ l. ⊎-elim (λ z. omega arith) (λ z. ⊎-elim (λ y. omega arith) (λ y. omega arith) z) h));
-  zero = (λ h. let l = part-numbers (length packet) o s e .0 .0 h in (l .from, l .ordered, l .to), λ h. part-numbers (length packet) o s e .0 .1 (record { from = h .0; ordered = h .1; to = h .2 }));
+  nine = (
+    λ h. outside (part-numbers (length packet) o s e .1 .0 h),
+    λ h. part-numbers (length packet) o s e .1 .1 (λ l. ⊎-elim (λ z. omega arith) (λ z. ⊎-elim (λ y. omega arith) (λ y. omega arith) z) h),
+  );
+  zero = (
+    λ h. let l = part-numbers (length packet) o s e .0 .0 h in (l .from, l .ordered, l .to),
+    λ h. part-numbers (length packet) o s e .0 .1 (record { from = h .0; ordered = h .1; to = h .2 }),
+  );
   empty = λ h. go (liesIn (length packet) o s e) refl h;
   there = λ h. let q = lies-in (length packet) o s e (part-numbers (length packet) o s e .0 .0 h) in (rw q, rw q);
 }
@@ -75,7 +82,7 @@ parts packet o s e = record {
         pick : (a : Bool) → ltb s o ≡ a → (b : Bool) → ltb e s ≡ b → (s < o) ⊎ (e < s) ⊎ (o + length packet < e)
         pick true x b y = inl (ltb-true s o x)
         pick false x true y = inr (inl (ltb-true e s y))
-        pick false x false y = inr (inr (not-le (λ z. f (record { from = ltb-false s o x; ordered = ltb-false e s y; to = z }))))
+        pick false x false y = inr (inr (lt-of-not-le (λ z. f (record { from = ltb-false s o x; ordered = ltb-false e s y; to = z }))))
 
     go : (t : Bool) → liesIn (length packet) o s e ≡ t → _≡_ {A = ℕ} (cond t 0 9) 9 → (partOf packet o s e ≡ []) × (partPlace (length packet) o s e ≡ 0)
     go true q h = absurd (omega arith)
@@ -141,17 +148,16 @@ reads-from (suc k) s p es h = go (stepAt s p) refl h (reads-from k s)
 gives-back : (d : List ℕ) (o n : ℕ) (es : List Entry) (r t : ℕ) (before : List ℕ) → (n ≡ 0 → Laid anything o (o + length d) es)
     → answerOf (unless n (accepted es r t)) (length before) .number ≡ 0
     → GivesBack d o (take (answerOf (unless n (accepted es r t)) (length before) .size) (stripOf (unless n (accepted es r t)) before)) es
-unfolding unless answerOf stripOf readAll
-gives-back d o n es r t before w h = go (eqb n 0) refl (ltb (length before) (length (encode es))) refl h
+unfolding readAll
+gives-back d o n es r t before w h =
+    let k = taken n es r t before h in
+    let l = w (k .not-refused) in
+    rw (k .answered, k .written) (record { reads = reads-from _ _ 0 es (read-strip es before (k .fits)); laid = l; parts = named l })
   where
-    named : n ≡ 0 → (i s e : ℕ) → List·Memᴰ (bytes i s e) es → Names d o s e
-    named z i s e m = let l = laid-member (bytes i s e) (λ q. let y : _≡_ {A = ℕ} 0 1 = cc in omega arith) (w z) m in names d o s e (record { from = l .from; ordered = l .ordered; to = l .to })
-
-    go : (x : Bool) → eqb n 0 ≡ x → (y : Bool) → ltb (length before) (length (encode es)) ≡ y → answerOf (cond x (accepted es r t) (refusing n)) (length before) .number ≡ 0
-        → GivesBack d o (take (answerOf (unless n (accepted es r t)) (length before) .size) (stripOf (unless n (accepted es r t)) before)) es
-    go true p false q h = rw (p, q) (record { reads = reads-from _ _ 0 es (read-strip es before (ltb-false _ _ q)); laid = w (eqb-true n 0 p); parts = named (eqb-true n 0 p) })
-    go true p true q h = let z = rw q at h in absurd (omega arith)
-    go false p y q h = absurd (eqb-false n 0 p h)
+    named : Laid anything o (o + length d) es → (i s e : ℕ) → List·Memᴰ (bytes i s e) es → Names d o s e
+    named l i s e m =
+        let q = laid-member (bytes i s e) (λ q. let y : _≡_ {A = ℕ} 0 1 = cc in omega arith) l m in
+        names d o s e (record { from = q .from; ordered = q .ordered; to = q .to })
 
 -- Every accepted walk.
 pub headers-give-back : (v : ℕ) (d : List ℕ) (o : ℕ) (before : List ℕ) → answerOf (headersOf v d o) (length before) .number ≡ 0

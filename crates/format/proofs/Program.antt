@@ -8,14 +8,14 @@ use mathlib.Core.List.{List}
 use mathlib.Core.Option.{none}
 use lib.ListN.{length, getD, drop, length-drop}
 use lib.Dec.{eqb, ltb}
-use borrow.Author.Tests.{le-ltb, ltb-true, ltb-false, eqb-false, ne-eqb}
-use Rattle.format.specs.Strip.{Entry, encode}
-use Rattle.format.specs.Walks.{Walk, answerOf, unless, refusal, isKnown, maxData, maxOffset, headersOf, updateOf, lsaOf, walkNamed, walkOf, namedOf}
+use borrow.Author.Tests.{ltb-true, ltb-false, eqb-false, ne-eqb}
+use Rattle.format.specs.Strip.{Entry}
+use Rattle.format.specs.Walks.{Walk, answerOf, unless, refusal, maxData, headersOf, updateOf, lsaOf, walkNamed, walkOf, namedOf}
 use Rattle.format.specs.Walks.Walk.{headerList, update, single}
 use Rattle.format.specs.Walks.Outcome.{refused, accepted}
 use Rattle.format.specs.Print.{maxInput, stripRoom, countOf, namedWalk, programOf}
 use Rattle.format.specs.Refusals.{ProgramRefusals}
-use Rattle.format.proofs.Refusals.{number-is}
+use Rattle.format.proofs.Refusals.{refusals}
 
 -- no number above 2 names a walk
 no-walk : (n : ℕ) → 2 < n → walkNamed n ≡ none
@@ -34,15 +34,8 @@ walks-are v d count o = (refl, refl, refl, λ n h. rw (namedOf, no-walk n h))
 numbers : (v : ℕ) (d : List ℕ) (o least : ℕ) (es : List Entry) (r t room : ℕ) → length d ≤ maxData
     → (answerOf (unless (refusal v d o least) (accepted es r t)) room .number ≡ 2 → ⊥) × (answerOf (unless (refusal v d o least) (accepted es r t)) room .number ≤ 5)
 numbers v d o least es r t room h =
-    rw (number-is v d o least es r t room, le-ltb maxData (length d) h)
-    (go (isKnown v) (ltb maxOffset o) (ltb (length d) least) (ltb room (length (encode es))))
-  where
-    go : (a c e f : Bool) → (_≡_ {A = ℕ} (cond a (cond c 3 (cond e 4 (cond f 5 0))) 1) 2 → ⊥) × (cond a (cond c 3 (cond e 4 (cond f 5 0))) 1 ≤ 5)
-    go false c e f = (λ z. omega arith, omega arith)
-    go true true e f = (λ z. omega arith, omega arith)
-    go true false true f = (λ z. omega arith, omega arith)
-    go true false false true = (λ z. omega arith, omega arith)
-    go true false false false = (λ z. omega arith, omega arith)
+    let n = refusals v d o least es r t room .numbers in
+    (λ z. let p = n .two .0 z .1 in omega arith, n .no-other)
 
 walk-numbers : (v : ℕ) (w : Walk) (d : List ℕ) (n o : ℕ) → length d ≤ maxData
     → (answerOf (walkOf v w d n o) stripRoom .number ≡ 2 → ⊥) × (answerOf (walkOf v w d n o) stripRoom .number ≤ 5)

@@ -1,57 +1,30 @@
--- Each refusal's number is answered exactly when its condition holds and none before it does; and a refused call leaves the
--- buffer as it was and answers zeros, but for the length needed where there is too little room.
+-- Each refusal's number is answered exactly when its condition holds and none before it does; a refused call leaves the
+-- buffer as it was and answers zeros, but for the length needed where there is too little room; and what an answer of 0 says.
 use Prim.Native.Nat.{ℕ, _<_, _≤_}
 use native.Mathlib.Omega.{arith}
 use mathlib.Core.Path.{_≡_, refl}
-use mathlib.Core.Logic.{⊎-elim}
+use mathlib.Core.Logic.{_⊎_, inl, inr, ⊎-elim}
 use mathlib.Core.Bool.{Bool, true, false, cond}
 use mathlib.Core.List.{List}
 use lib.ListN.{length}
 use lib.Seq.{sets}
-use lib.Dec.{eqb, leb, ltb}
-use borrow.Author.Tests.{ltb-true, ltb-false, leb-true, leb-false, eqb-true, eqb-false, lt-ltb, le-ltb, eq-eqb, ne-eqb}
+use lib.Dec.{eqb, ltb}
+use borrow.Author.Tests.{ltb-false, eqb-true, eqb-false, lt-ltb, le-ltb, eq-eqb, ne-eqb}
 use Rattle.format.specs.Strip.{Entry, encode}
-use Rattle.format.specs.Walks.{Outcome, answer, answerOf, stripOf, unless, isKnown, refusal, maxData, maxOffset, headersOf, updateOf, lsaOf, outer, headerObject, lsaObject, headers, lsas, lsaEntries}
+use Rattle.format.specs.Walks.{Outcome, answer, answerOf, stripOf, unless, isKnown, refusal, maxData, maxOffset}
+use Rattle.format.specs.Walks.{headersOf, updateOf, lsaOf, outer, headerObject, lsaObject, headers, lsas, lsaEntries}
 use Rattle.format.specs.Header.{headerSize}
 use Rattle.format.specs.Refusals.{NoVersion, TooMuch, TooFar, TooLittle, Numbers, Refusals}
 use Rattle.format.specs.Walks.Outcome.{refused, accepted}
-
--- A proposition that a test decides.
-data Decided (p : Type 0) : Bool → Type 0 where
-  holds : p → Decided p true
-  fails : (p → ⊥) → Decided p false
-
-less : (a b : ℕ) → Decided (a < b) (ltb a b)
-less a b = go (ltb a b) refl
-  where
-    go : (t : Bool) → ltb a b ≡ t → Decided (a < b) t
-    go true e = holds (ltb-true a b e)
-    go false e = fails (λ h. let q = ltb-false a b e in omega arith)
+use Rattle.format.proofs.Decided.{Decided, less, version}
+use Rattle.format.proofs.Decided.Decided.{holds, fails}
 
 -- whether the version is neither 2 nor 3, by the test that it is one of them
-no-version : (v : ℕ) → Decided (NoVersion v → ⊥) (isKnown v)
-no-version v = go (eqb v 2) refl (eqb v 3) refl
-  where
-    go : (s : Bool) → eqb v 2 ≡ s → (t : Bool) → eqb v 3 ≡ t → Decided (NoVersion v → ⊥) (cond s true t)
-    go true e t f = holds (λ n. n .0 (eqb-true v 2 e))
-    go false e true f = holds (λ n. n .1 (eqb-true v 3 f))
-    go false e false f = fails (λ n. n (eqb-false v 2 e, eqb-false v 3 f))
+no-version : {v : ℕ} {t : Bool} → Decided ((v ≡ 2) ⊎ (v ≡ 3)) t → Decided (NoVersion v → ⊥) t
+no-version (holds k) = holds (λ n. ⊎-elim (n .0) (n .1) k)
+no-version (fails f) = fails (λ n. n (λ e. f (inl e), λ e. f (inr e)))
 
 -- The table, from the tests in their order.
-pub not-less : {a b : ℕ} → (a < b → ⊥) → b ≤ a
-not-less {a} {b} h = go (ltb a b) refl
-  where
-    go : (t : Bool) → ltb a b ≡ t → b ≤ a
-    go true e = absurd (h (ltb-true a b e))
-    go false e = ltb-false a b e
-
-pub not-le : {a b : ℕ} → (a ≤ b → ⊥) → b < a
-not-le {a} {b} h = go (leb a b) refl
-  where
-    go : (t : Bool) → leb a b ≡ t → b < a
-    go true e = absurd (h (leb-true a b e))
-    go false e = leb-false a b e
-
 table : (v : ℕ) (d : List ℕ) (o least room needed : ℕ) {a b c e f : Bool}
     → Decided (NoVersion v → ⊥) a → Decided (TooMuch d) b → Decided (TooFar o) c → Decided (TooLittle d least) e → Decided (room < needed) f
     → Numbers v d o least room needed (cond a (cond b 2 (cond c 3 (cond e 4 (cond f 5 0)))) 1)
@@ -106,12 +79,12 @@ table v d o least room needed (holds k) (fails n2) (fails n3) (fails n4) (fails 
   three = (λ h. absurd (omega arith), λ p. absurd (n3 (p .2)));
   four = (λ h. absurd (omega arith), λ p. absurd (n4 (p .3)));
   five = (λ h. absurd (omega arith), λ p. absurd (n5 (p .4)));
-  zero = (λ h. (k, n2, n3, n4, not-less n5), λ p. refl);
+  zero = (λ h. (k, n2, n3, n4, omega arith), λ p. refl);
   no-other = omega arith;
 }
 
 -- The number that is answered is that of the first test that fails.
-pub number-is : (v : ℕ) (d : List ℕ) (o least : ℕ) (es : List Entry) (r t room : ℕ)
+number-is : (v : ℕ) (d : List ℕ) (o least : ℕ) (es : List Entry) (r t room : ℕ)
     → answerOf (unless (refusal v d o least) (accepted es r t)) room .number
     ≡ cond (isKnown v) (cond (ltb maxData (length d)) 2 (cond (ltb maxOffset o) 3 (cond (ltb (length d) least) 4 (cond (ltb room (length (encode es))) 5 0)))) 1
 unfolding unless answerOf
@@ -143,7 +116,7 @@ unfolding unless answerOf
 refusals v d o least es r t room =
     go (eqb (refusal v d o least) 0) refl (ltb room (length (encode es))) refl
     (rw (number-is v d o least es r t room)
-    (table v d o least room (length (encode es)) (no-version v) (less maxData (length d)) (less maxOffset o) (less (length d) least) (less room (length (encode es)))))
+    (table v d o least room (length (encode es)) (no-version (version v)) (less maxData (length d)) (less maxOffset o) (less (length d) least) (less room (length (encode es)))))
   where
     go : (s : Bool) → eqb (refusal v d o least) 0 ≡ s → (f : Bool) → ltb room (length (encode es)) ≡ f
         → Numbers v d o least room (length (encode es)) (answerOf (unless (refusal v d o least) (accepted es r t)) room .number)
@@ -200,6 +173,23 @@ module _ (n : ℕ) (es : List Entry) (r t : ℕ) (before : List ℕ) where
       → (answerOf (unless n (accepted es r t)) (length before) ≡ answer 0 (length (encode es)) r t) × (stripOf (unless n (accepted es r t)) before ≡ sets before 0 (encode es))
   unfolding unless answerOf stripOf
   walk-done h l = let e = eq-eqb n 0 h in let f = le-ltb (length before) (length (encode es)) l in (rw (e, f), rw (e, f))
+
+-- An answer of 0 is that of an accepted outcome whose strip has room.
+pub record Taken (n : ℕ) (es : List Entry) (r t : ℕ) (before : List ℕ) : Type 0 where
+  pub not-refused : n ≡ 0
+  pub fits : length (encode es) ≤ length before
+  pub answered : answerOf (unless n (accepted es r t)) (length before) ≡ answer 0 (length (encode es)) r t
+  pub written : stripOf (unless n (accepted es r t)) before ≡ sets before 0 (encode es)
+
+pub taken : (n : ℕ) (es : List Entry) (r t : ℕ) (before : List ℕ) → answerOf (unless n (accepted es r t)) (length before) .number ≡ 0 → Taken n es r t before
+unfolding unless answerOf stripOf
+taken n es r t before h = go (eqb n 0) refl (ltb (length before) (length (encode es))) refl h
+  where
+    go : (s : Bool) → eqb n 0 ≡ s → (f : Bool) → ltb (length before) (length (encode es)) ≡ f
+        → answerOf (cond s (accepted es r t) (refused n)) (length before) .number ≡ 0 → Taken n es r t before
+    go true p false q h = record { not-refused = eqb-true n 0 p; fits = ltb-false _ _ q; answered = rw (p, q); written = rw (p, q) }
+    go true p true q h = let z = rw q at h in absurd (omega arith)
+    go false p f q h = absurd (eqb-false n 0 p h)
 
 -- The limits that a call without a refusal keeps.
 pub record Limits (d : List ℕ) (o least : ℕ) : Type 0 where

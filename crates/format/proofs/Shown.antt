@@ -65,7 +65,9 @@ module _ (r : Rule) (b : List ℕ) (standsAt : ℕ → ℕ → Type 0) (says : (
     (ok-array : ok array ≡ false) (ok-item : ok item ≡ false) (apart : eqb array item ≡ false) (apart′ : eqb item array ≡ false)
     (nested : (s : Span) → Nested ok (inside s)) where
   pub shows : (before : List Entry) → Nested ok before → (es : List Entry) (tail : ℕ)
-      → es ≡ before ++ (listing array (λ (s : Span). container item (o + s .at) (o + s .at + s .len) (inside s)) o first (cut r b count first) ++ leftover unparsed b o (after first (cut r b count first)))
+      → es ≡ before
+      ++ (listing array (λ (s : Span). container item (o + s .at) (o + s .at + s .len) (inside s)) o first (cut r b count first)
+      ++ leftover unparsed b o (after first (cut r b count first)))
       → tail ≡ length b - after first (cut r b count first)
       → Shows standsAt (length b) count first o array item unparsed (cut r b count first) (after first (cut r b count first)) tail before inside es
   unfolding listing
@@ -74,15 +76,16 @@ module _ (r : Rule) (b : List ℕ) (standsAt : ℕ → ℕ → Type 0) (says : (
       let box : Span → List Entry = λ (s : Span). container item (o + s .at) (o + s .at + s .len) (inside s) in
       let left = leftover unparsed b o (after first ss) in
       let arr = container array (o + first) (o + after first ss) (flatMap box ss) in
+      let in-array : (i : ℕ) → ok i ≡ false → ranges i es ≡ cond (eqb i array) (range (o + first) (o + after first ss) ∷ []) [] ++ ranges i (flatMap box ss) =
+      λ i h. ap (ranges i) e ∙ (ranges-append i before (arr ++ left) ∙ rw (absent i h n)
+      (ranges-append i arr left ∙ rw (absent i h (nested-leftover ok unparsed b o (after first ss)), append-nil)
+      (ranges-container i array (o + first) (o + after first ss) (flatMap box ss)))) in
       record {
         is-cut = cut-into r b standsAt says count first tail ends t;
         only-cut = λ qs x u c. let z = only-cut r b standsAt says count first qs x u c in (z .0, z .1, z .2 ∙ sym t);
-        items = ap (ranges item) e ∙ (ranges-append item before (arr ++ left) ∙ (rw (absent item ok-item n)
-            (ranges-append item arr left ∙ (rw (absent item ok-item (nested-leftover ok unparsed b o (after first ss)), append-nil, ranges-container item array (o + first) (o + after first ss) (flatMap box ss), apart′)
-            (items-placed o item inside (λ s. absent item ok-item (nested s)) ss)))));
-        arrays = ap (ranges array) e ∙ (ranges-append array before (arr ++ left) ∙ (rw (absent array ok-array n)
-            (ranges-append array arr left ∙ (rw (absent array ok-array (nested-leftover ok unparsed b o (after first ss)), append-nil, ranges-container array array (o + first) (o + after first ss) (flatMap box ss), eq-eqb array array refl)
-            (ap (λ (x : List Range). range (o + first) (o + after first ss) ∷ x) (items-absent o item inside array apart (λ s. absent array ok-array (nested s)) ss))))));
+        items = in-array item ok-item ∙ rw apart′ (items-placed o item inside (λ s. absent item ok-item (nested s)) ss);
+        arrays = in-array array ok-array ∙ rw (eq-eqb array array refl)
+            (ap (λ (x : List Range). range (o + first) (o + after first ss) ∷ x) (items-absent o item inside array apart (λ s. absent array ok-array (nested s)) ss));
         rest = left;
         shape = e;
         none-before = absent item ok-item n;

@@ -1,6 +1,7 @@
 -- Each body and count has exactly one cut, whatever the rule.
-use Prim.Native.Nat.{ℕ, zero, suc, _+_, zero-le, suc-le-suc}
+use Prim.Native.Nat.{ℕ, zero, suc, _+_, _-_, _<_, zero-le, suc-le-suc}
 use native.Mathlib.Nat.{le-of-suc-le-suc, not-suc-le-zero}
+use native.Mathlib.Omega.{arith}
 use mathlib.Core.Path.{_≡_, refl, sym}
 use mathlib.Core.List.{List, [], _∷_}
 use mathlib.Core.Option.{Option, none, some}
@@ -21,6 +22,11 @@ module _ (r : Rule) (b : List ℕ) where
   pub cut-some : (k p n : ℕ) → r b p ≡ some n → cut r b (suc k) p ≡ span p n ∷ cut r b k (p + n)
   unfolding cut
   cut-some k p n e = rw (cut, e)
+
+  -- the same of a count that is not used up
+  pub cut-next : (k p n : ℕ) → 0 < k → r b p ≡ some n → cut r b k p ≡ span p n ∷ cut r b (k - 1) (p + n)
+  cut-next zero p n h e = absurd (not-suc-le-zero h)
+  cut-next (suc k) p n h e = let q : suc k - 1 ≡ k = omega arith in rw q (cut-some k p n e)
 
   -- what `cut` gives is a cut
   pub is-cut : (k p : ℕ) → IsCut r b k p (cut r b k p)

@@ -1,13 +1,12 @@
--- What every accepted call of a walk shows, and when each refusal is answered.
-use Prim.Native.Nat.{ℕ, _+_, _-_, _/_, _≤_, _<_}
+-- What the strip of every accepted call of a walk shows: an update, a single LSA, a header list.
+use Prim.Native.Nat.{ℕ, _+_, _-_, _/_, _<_}
 use native.Mathlib.Omega.{arith}
 use mathlib.Core.Path.{_≡_, refl, ap, _∙_}
 use mathlib.Core.Bool.{Bool, true, false, cond}
 use mathlib.Core.List.{List, []}
 use lib.ListN.{length, take, length-map, length-append}
 use lib.Seq.{sets, length-take-le, length-sets}
-use lib.Dec.{eqb, ltb}
-use borrow.Author.Tests.{ltb-false, eqb-true, eqb-false}
+use lib.Dec.{eqb}
 use Rattle.format.specs.Strip.{Entry, code, encode}
 use Rattle.format.specs.Cut.{Span, cut, after, recordRule, fixedRule}
 use Rattle.format.specs.CutInto.{FixedAt, RecordAt}
@@ -15,8 +14,8 @@ use Rattle.format.specs.Header.{headerSize, headerEntries2, headerEntrie
 use Rattle.format.specs.Body.{listing, leftover, whole}
 use Rattle.format.specs.V2.{lsaEntries2}
 use Rattle.format.specs.V3.{lsaEntries3}
-use Rattle.format.specs.Walks.{answer, answerOf, stripOf, unless, refusal, headersOf, updateOf, lsaOf, lsaEntries, lsaTail, headerEntries, lsaObject, headerObject, outer, unparsedId, lsas, headers}
-use Rattle.format.specs.Walks.Outcome.{refused, accepted}
+use Rattle.format.specs.Walks.{answerOf, stripOf, refusal, headersOf, updateOf, lsaOf}
+use Rattle.format.specs.Walks.{lsaEntries, lsaTail, headerEntries, lsaObject, headerObject, outer, unparsedId, lsas, headers}
 use Rattle.format.specs.Shown.{own, UpdateShows, OneShows, HeadersShow}
 use Rattle.format.specs.Lists.{unparsed}
 use Rattle.format.proofs.Nested.{Nested}
@@ -28,32 +27,15 @@ use Rattle.format.proofs.ListRanges.{link-ranges, prefix-ranges, update
 use Rattle.format.proofs.NestedLsa.{below, nested-lsa, nested-header}
 use Rattle.format.proofs.Shown.{shows, lsa-shows, read-strip}
 use Rattle.format.proofs.CutInto.{record-stands, fixed-stands-at}
-use Rattle.format.proofs.Refusals.{limits}
+use Rattle.format.proofs.Refusals.{limits, Taken, taken}
 use Rattle.format.proofs.Lists.{length-listing, whole-after}
 use Rattle.format.proofs.Wrote.{encode-append}
-
--- An answer of 0 is that of an accepted outcome whose strip has room.
-pub record Taken (n : ℕ) (es : List Entry) (r t : ℕ) (before : List ℕ) : Type 0 where
-  pub not-refused : n ≡ 0
-  pub fits : length (encode es) ≤ length before
-  pub answered : answerOf (unless n (accepted es r t)) (length before) ≡ answer 0 (length (encode es)) r t
-  pub written : stripOf (unless n (accepted es r t)) before ≡ sets before 0 (encode es)
-
-pub taken : (n : ℕ) (es : List Entry) (r t : ℕ) (before : List ℕ) → answerOf (unless n (accepted es r t)) (length before) .number ≡ 0 → Taken n es r t before
-unfolding unless answerOf stripOf
-taken n es r t before h = go (eqb n 0) refl (ltb (length before) (length (encode es))) refl h
-  where
-    go : (s : Bool) → eqb n 0 ≡ s → (f : Bool) → ltb (length before) (length (encode es)) ≡ f
-        → answerOf (cond s (accepted es r t) (refused n)) (length before) .number ≡ 0 → Taken n es r t before
-    go true p false q h = record { not-refused = eqb-true n 0 p; fits = ltb-false _ _ q; answered = rw (p, q); written = rw (p, q) }
-    go true p true q h = let z = rw q at h in absurd (omega arith)
-    go false p f q h = absurd (eqb-false n 0 p h)
 
 -- The bytes that an accepted call left.
 strip-length : {n : ℕ} {es : List Entry} {r t : ℕ} {before : List ℕ} (k : Taken n es r t before) → length (take (length (encode es)) (sets before 0 (encode es))) ≡ length (encode es)
 strip-length {es = es} {before = before} k = length-take-le (length (encode es)) (sets before 0 (encode es)) (rw (length-sets before 0 (encode es)) (k .fits))
 
--- An outer array has eleven bytes at least, and a header object's fields more.
+-- An outer array has eleven bytes at least.
 outer-longer : (v : ℕ) (f : Span → List Entry) (d : List ℕ) (o p : ℕ) (ss : List Span) → 0 < length (encode (outer v f d o p ss))
 unfolding outer
 outer-longer v f d o p ss =

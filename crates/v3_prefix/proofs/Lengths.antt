@@ -1,6 +1,5 @@
 -- The lengths of the parts of a prefix, and of a list of prefixes, entry by entry.
-use Prim.Native.Nat.{ℕ, zero, suc, _+_, _-_, _<_}
-use native.Mathlib.Omega.{arith}
+use Prim.Native.Nat.{ℕ, _+_, _-_, _<_}
 use mathlib.Core.Bool.{Bool, true, false, cond}
 use mathlib.Core.List.{List, [], _∷_, flatMap}
 use mathlib.Core.Option.{none, some}
@@ -11,7 +10,7 @@ use Rattle.format.specs.Strip.{encode, code}
 use Rattle.format.specs.V3.{prefixMetric, prefixFields, prefix, entryFits}
 use Rattle.format.proofs.Lengths.{length-part, length-prefix}
 use Rattle.format.proofs.Loop.{spread, spread-cons}
-use Rattle.format.proofs.Unique.{span, cut-none, cut-some}
+use Rattle.format.proofs.Unique.{span, cut-none, cut-next}
 use Rattle.v3_prefix.proofs.Fits.{entry-stands, entry-ends}
 
 -- The parts of an entry.
@@ -31,13 +30,7 @@ prefixes-end b k p e = cut-none prefixRule b k p (entry-ends b p e)
 -- Else there is its first entry, and the rest.
 module _ (b : List ℕ) (k p n : ℕ) (h : 0 < k) (e : entryFits b p ≡ some n) where
   prefixes-next : cut prefixRule b k p ≡ span p (4 + n) ∷ cut prefixRule b (k - 1) (p + (4 + n))
-  prefixes-next = go k h
-    where
-      go : (j : ℕ) → 0 < j → cut prefixRule b j p ≡ span p (4 + n) ∷ cut prefixRule b (j - 1) (p + (4 + n))
-      go zero i = absurd (omega arith)
-      go (suc j) i =
-          let q : suc j - 1 ≡ j = omega arith in
-          rw q (cut-some prefixRule b j p (4 + n) (entry-stands b p n e))
+  prefixes-next = cut-next prefixRule b k p (4 + n) h (entry-stands b p n e)
 
   pub prefixes-length : (m : Bool) (o : ℕ) → length (encode (flatMap (prefix m b o) (cut prefixRule b k p)))
       ≡ 59 + cond m 12 0 + length (encode (flatMap (prefix m b o) (cut prefixRule b (k - 1) (p + (4 + n)))))

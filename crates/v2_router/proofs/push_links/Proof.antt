@@ -92,7 +92,7 @@ loop-again c =
     }
 
 same-length : tie.Need-same-length Inv-loop μ-loop
-same-length c = kept (c .before .loop .inv .writing .wrote)
+same-length c = kept (c .before .loop .inv .writing .so-far)
 
 returns : tie.Need-returns Inv-loop μ-loop
 unfolding spread cut
@@ -105,7 +105,7 @@ returns c =
     rw e (d .0, (d .1, g .within))
 
 same-length-2 : tie.Need-same-length-2 Inv-loop μ-loop
-same-length-2 c = kept (c .before .before .before .before .loop .inv .writing .wrote)
+same-length-2 c = kept (c .before .before .before .before .loop .inv .writing .so-far)
 
 returns-2 : tie.Need-returns-2 Inv-loop μ-loop
 unfolding spread

@@ -69,7 +69,7 @@ loop-again c =
     (turn prefixRule _ _ _ _ _ _ _ (l .inv .0) (omega arith) (entry-stands b (l .pos) _ f) (c .before .before .push-prefix .ensures), omega arith)
 
 same-length : tie.Need-same-length Inv-loop μ-loop
-same-length c = kept (c .before .loop .inv .0 .wrote)
+same-length c = kept (c .before .loop .inv .0 .so-far)
 
 returns : tie.Need-returns Inv-loop μ-loop
 unfolding spread cut
@@ -80,7 +80,7 @@ returns c =
     (d .0, (d .1, l .inv .1))
 
 same-length-2 : tie.Need-same-length-2 Inv-loop μ-loop
-same-length-2 c = kept (c .before .before .before .before .loop .inv .0 .wrote)
+same-length-2 c = kept (c .before .before .before .before .loop .inv .0 .so-far)
 
 returns-2 : tie.Need-returns-2 Inv-loop μ-loop
 unfolding spread

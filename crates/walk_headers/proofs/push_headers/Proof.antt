@@ -1,7 +1,6 @@
 use borrow.Author.Needs.{needs}
 use native.Mathlib.Omega.{arith}
-use Rattle.format.proofs.FixedLoop.{FixedWriting, fixed-begin, fixed-next, fixed-room, fixed-turn, fixed-finish}
-use Rattle.format.proofs.Wrote.{kept}
+use Rattle.format.proofs.FixedLoop.{FixedWriting, fixed-begin, fixed-next, fixed-kept, fixed-finish}
 use Rattle.format.specs.Walks.{headerObject}
 use Rattle.walk_headers.proofs.push_headers.Statement.{statement}
 use Rattle.walk_headers.proofs.push_headers.Tie as tie
@@ -13,29 +12,21 @@ abbrev μ-loop : tie.MeasureT-loop
 μ-loop strip₀ at version «data» count o a₀ pos₀ left₀ strip a pos left = left
 
 loop-holds : tie.Need-loop-holds Inv-loop μ-loop
-loop-holds c = fixed-begin 20 _ _ _ 0 _ _ (omega arith)
+loop-holds c = fixed-begin (search needs) (search needs)
 
 push-header-requires : tie.Need-push-header-requires Inv-loop μ-loop
-push-header-requires c κs =
-    let g = c .before .before .loop .inv in
-    let n = fixed-next 20 _ _ _ 0 _ _ g (c .before .loop-test .taken) in
-    let m = fixed-room 20 _ _ _ 0 _ _ g (c .before .loop-test .taken) (c .before .before .before .before .before .pre .0) in
-    omega arith
-
-add-pos : tie.Need-add-pos Inv-loop μ-loop
-add-pos c =
-    let n = fixed-next 20 _ _ _ 0 _ _ (c .before .before .before .before .before .loop .inv) (c .before .before .before .before .loop-test .taken) in
-    omega arith
+push-header-requires c κs = let n = fixed-next (c .before .before .loop .inv) (c .before .loop-test .taken) in omega arith
 
 loop-again : tie.Need-loop-again Inv-loop μ-loop
-loop-again c = fixed-turn 20 _ _ _ 0 _ _ (c .before .before .before .before .before .loop .inv) (c .before .before .before .before .loop-test .taken) (c .before .before .push-header .ensures)
+loop-again c = fixed-next (c .before .before .before .before .before .loop .inv) (c .before .before .before .before .loop-test .taken) .written (c .before .before .push-header .ensures)
 
 same-length : tie.Need-same-length Inv-loop μ-loop
-same-length c = kept (c .before .loop .inv .writing .wrote)
+same-length c = fixed-kept (c .before .loop .inv)
 
 returns : tie.Need-returns Inv-loop μ-loop
-returns c = fixed-finish 20 _ _ _ 0 _ _ (c .before .loop .inv) (omega arith)
+returns c = fixed-finish (c .before .loop .inv) (search needs)
 
 pub push-headers-spec : {M : Type 1} → statement M
 push-headers-spec = tie.close (tie.spec
-    Inv-loop μ-loop loop-holds push-header-requires add-pos (search needs) (search needs) loop-again same-length returns)
+    Inv-loop μ-loop loop-holds push-header-requires (search needs) (search needs) (search needs) loop-again same-length
+    returns)

@@ -48,7 +48,7 @@ loop-again c =
     (turn recordRule _ _ _ 4 _ _ _ (c .before .before .before .before .before .before .before .before .before .loop .inv .0) (omega arith) (fits d) (c .before .before .push-lsa-object .ensures), inside 20 _ _ _ _ (fits d) .within)
 
 same-length : tie.Need-same-length Inv-loop μ-loop
-same-length c = kept (c .before .loop .inv .0 .wrote)
+same-length c = kept (c .before .loop .inv .0 .so-far)
 
 returns : tie.Need-returns Inv-loop μ-loop
 unfolding spread cut
@@ -57,7 +57,7 @@ returns c =
     finish recordRule _ _ _ 4 _ _ (c .before .loop .inv .0) (rw z refl) .0
 
 same-length-2 : tie.Need-same-length-2 Inv-loop μ-loop
-same-length-2 c = kept (c .before .before .before .before .loop .inv .0 .wrote)
+same-length-2 c = kept (c .before .before .before .before .loop .inv .0 .so-far)
 
 returns-2 : tie.Need-returns-2 Inv-loop μ-loop
 unfolding spread
