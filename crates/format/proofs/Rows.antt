@@ -37,30 +37,27 @@ from-place : (p k : ℕ) → from p k ≡ p + k
 from-place p zero = sym (add-zero p)
 from-place p (suc k) = refl
 
--- What a row's entry is: a field with a value, from s to e.
-record Is (x : Entry) (s e : ℕ) : Type 0 where
-  is-field : isField x ≡ true
-  allowed : (c r : List ℕ) → only c r x ≡ true
-  starts : start x ≡ s
-  ends : end x ≡ e
+-- An entry is a field with a value, whatever containers and byte ranges are allowed, from s to e.
+abbrev Is : Entry → ℕ → ℕ → Type 0
+Is x s e = (isField x ≡ true) × ((c r : List ℕ) → only c r x ≡ true) × (start x ≡ s) × (end x ≡ e)
 
 module _ (b : List ℕ) (o p : ℕ) where
   row-is : (k i : ℕ) (f : Field) → Is (entryOf b o p (row k f i)) (o + from p k) (o + from p k + size f)
-  row-is k i u8 = record { is-field = refl; allowed = λ c r. refl; starts = refl; ends = refl }
-  row-is k i (bit w) = record { is-field = refl; allowed = λ c r. refl; starts = refl; ends = refl }
-  row-is k i (lowBits w) = record { is-field = refl; allowed = λ c r. refl; starts = refl; ends = refl }
-  row-is k i u16 = record { is-field = refl; allowed = λ c r. refl; starts = refl; ends = refl }
-  row-is k i wide16 = record { is-field = refl; allowed = λ c r. refl; starts = refl; ends = refl }
-  row-is k i u24 = record { is-field = refl; allowed = λ c r. refl; starts = refl; ends = refl }
-  row-is k i metric24 = record { is-field = refl; allowed = λ c r. refl; starts = refl; ends = refl }
-  row-is k i u32 = record { is-field = refl; allowed = λ c r. refl; starts = refl; ends = refl }
-  row-is k i ip4 = record { is-field = refl; allowed = λ c r. refl; starts = refl; ends = refl }
-  row-is k i (ip6 n) = record { is-field = refl; allowed = λ c r. refl; starts = refl; ends = refl }
+  row-is k i u8 = (refl, λ c r. refl, refl, refl)
+  row-is k i (bit w) = (refl, λ c r. refl, refl, refl)
+  row-is k i (lowBits w) = (refl, λ c r. refl, refl, refl)
+  row-is k i u16 = (refl, λ c r. refl, refl, refl)
+  row-is k i wide16 = (refl, λ c r. refl, refl, refl)
+  row-is k i u24 = (refl, λ c r. refl, refl, refl)
+  row-is k i metric24 = (refl, λ c r. refl, refl, refl)
+  row-is k i u32 = (refl, λ c r. refl, refl, refl)
+  row-is k i ip4 = (refl, λ c r. refl, refl, refl)
+  row-is k i (ip6 n) = (refl, λ c r. refl, refl, refl)
 
   -- no row opens or closes
   pub rows-nested : (ok : ℕ → Bool) (t : Layout) → Nested ok (entriesAt t b o p)
   rows-nested ok [] = nested-none
-  rows-nested ok (row k f i ∷ rs) = nested-field (row-is k i f .is-field) (rows-nested ok rs)
+  rows-nested ok (row k f i ∷ rs) = nested-field (row-is k i f .0) (rows-nested ok rs)
 
   -- a table in a record of n bytes
   pub rows-laid : {c r : List ℕ} {lo hi : ℕ} (n : ℕ) (t : Layout) → Within n t → lo ≤ o + p → o + p + n ≤ hi → Laid (only c r) lo hi (entriesAt t b o p)
@@ -68,9 +65,9 @@ module _ (b : List ℕ) (o p : ℕ) where
   rows-laid {c} {r} {lo} {hi} n (row k f i ∷ rs) h l m =
       let x = row-is k i f in
       let q = from-place p k in
-      let s = x .starts in
-      let e = x .ends in
-      field {lo = lo} {hi = hi} {x = entryOf b o p (row k f i)} (x .is-field) (x .allowed c r) (omega arith) (omega arith) (omega (arith, h .0)) (rows-laid n rs (h .1) l m)
+      let s = x .2 in
+      let e = x .3 in
+      field {lo = lo} {hi = hi} {x = entryOf b o p (row k f i)} (x .0) (x .1 c r) (omega arith) (omega arith) (omega (arith, h .0)) (rows-laid n rs (h .1) l m)
 
 -- The same at the front of its bytes.
 pub rows-first : {c r : List ℕ} (b : List ℕ) (o n : ℕ) (t : Layout) → Within n t → Laid (only c r) o (o + n) (entriesAt t b o 0)
