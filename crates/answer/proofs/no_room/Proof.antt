@@ -1,9 +1,0 @@
-use borrow.Author.Needs.{needs}
-use Rattle.answer.proofs.no_room.Statement.{statement}
-use Rattle.answer.proofs.no_room.Tie as tie
-
-returns : tie.Need-returns
-returns c = search needs
-
-pub no-room-spec : {M : Type 1} → statement M
-no-room-spec = tie.close (tie.spec returns)
