@@ -25,97 +25,22 @@ abbrev put-digits-below : ℕ → In 1 put-digits-kinds.ps
 put-digits-below t =
     and 1 put-digits-kinds.ps (falls 1 put-digits-kinds.ps _<_ μ-put-digits t) put-digits.Pre
 
-put-digits-cast-digit : (t : ℕ) → put-digits-lts.Need-cast-digit (
-  put-u8-reads.Asked,
-  put-u8-reads.Learnt,
-  put-digits-below t,
-  put-digits.Post,
-) (put-digits-at t) put-digits.Post
-put-digits-cast-digit t c = search needs
+-- the contracts of the functions that are called
+abbrev called : ℕ → put-digits-lts.Claims
+called t = (put-u8-reads.Asked, put-u8-reads.Learnt, put-digits-below t, put-digits.Post)
 
-put-digits-add-digit : (t : ℕ) → put-digits-lts.Need-add-digit (
-  put-u8-reads.Asked,
-  put-u8-reads.Learnt,
-  put-digits-below t,
-  put-digits.Post,
-) (put-digits-at t) put-digits.Post
-put-digits-add-digit t c = search needs
-
-put-digits-put-u8-requires : (t : ℕ) → put-digits-lts.Need-put-u8-requires (
-  put-u8-reads.Asked,
-  put-u8-reads.Learnt,
-  put-digits-below t,
-  put-digits.Post,
-) (put-digits-at t) put-digits.Post
-put-digits-put-u8-requires t c κs = search needs
-
-put-digits-same-length : (t : ℕ) → put-digits-lts.Need-same-length (
-  put-u8-reads.Asked,
-  put-u8-reads.Learnt,
-  put-digits-below t,
-  put-digits.Post,
-) (put-digits-at t) put-digits.Post
-put-digits-same-length t c = search needs
-
-put-digits-returns : (t : ℕ) → put-digits-lts.Need-returns (
-  put-u8-reads.Asked,
-  put-u8-reads.Learnt,
-  put-digits-below t,
-  put-digits.Post,
-) (put-digits-at t) put-digits.Post
+put-digits-returns : (t : ℕ) → put-digits-lts.Need-returns (called t) (put-digits-at t) put-digits.Post
 put-digits-returns t c =
     let a = c .before .before .before .before .before .before .args in
     let e : a .k ≡ 0 = c .before .before .before .before .if1 .taken in
     rw (e, digits-last (a .n)) (c .before .before .put-u8 .ensures)
 
-put-digits-put-u8-requires-2 : (t : ℕ) → put-digits-lts.Need-put-u8-requires-2 (
-  put-u8-reads.Asked,
-  put-u8-reads.Learnt,
-  put-digits-below t,
-  put-digits.Post,
-) (put-digits-at t) put-digits.Post
-put-digits-put-u8-requires-2 t c κs = search needs
-
-put-digits-same-length-2 : (t : ℕ) → put-digits-lts.Need-same-length-2 (
-  put-u8-reads.Asked,
-  put-u8-reads.Learnt,
-  put-digits-below t,
-  put-digits.Post,
-) (put-digits-at t) put-digits.Post
-put-digits-same-length-2 t c = search needs
-
-put-digits-returns-2 : (t : ℕ) → put-digits-lts.Need-returns-2 (
-  put-u8-reads.Asked,
-  put-u8-reads.Learnt,
-  put-digits-below t,
-  put-digits.Post,
-) (put-digits-at t) put-digits.Post
+put-digits-returns-2 : (t : ℕ) → put-digits-lts.Need-returns-2 (called t) (put-digits-at t) put-digits.Post
 put-digits-returns-2 t c =
     let a = c .before .before .before .before .before .before .before .args in
     rw (digits-one (a .k) (a .n) (omega arith)) (c .before .before .put-u82 .ensures)
 
-put-digits-sub-put-digits : (t : ℕ) → put-digits-lts.Need-sub-put-digits (
-  put-u8-reads.Asked,
-  put-u8-reads.Learnt,
-  put-digits-below t,
-  put-digits.Post,
-) (put-digits-at t) put-digits.Post
-put-digits-sub-put-digits t c = search needs
-
-put-digits-put-digits-requires : (t : ℕ) → put-digits-lts.Need-put-digits-requires (
-  put-u8-reads.Asked,
-  put-u8-reads.Learnt,
-  put-digits-below t,
-  put-digits.Post,
-) (put-digits-at t) put-digits.Post
-put-digits-put-digits-requires t c κs = search needs
-
-put-digits-put-u8-requires-3 : (t : ℕ) → put-digits-lts.Need-put-u8-requires-3 (
-  put-u8-reads.Asked,
-  put-u8-reads.Learnt,
-  put-digits-below t,
-  put-digits.Post,
-) (put-digits-at t) put-digits.Post
+put-digits-put-u8-requires-3 : (t : ℕ) → put-digits-lts.Need-put-u8-requires-3 (called t) (put-digits-at t) put-digits.Post
 put-digits-put-u8-requires-3 t c κs =
     let a = c .before .before .before .before .before .before .before .before .args in
     let w = c .before .before .before .put-digits .ensures in
@@ -123,43 +48,26 @@ put-digits-put-u8-requires-3 t c κs =
     let g = kept w in
     omega (arith, w .place)
 
-put-digits-same-length-3 : (t : ℕ) → put-digits-lts.Need-same-length-3 (
-  put-u8-reads.Asked,
-  put-u8-reads.Learnt,
-  put-digits-below t,
-  put-digits.Post,
-) (put-digits-at t) put-digits.Post
-put-digits-same-length-3 t c = search needs
-
-put-digits-returns-3 : (t : ℕ) → put-digits-lts.Need-returns-3 (
-  put-u8-reads.Asked,
-  put-u8-reads.Learnt,
-  put-digits-below t,
-  put-digits.Post,
-) (put-digits-at t) put-digits.Post
+put-digits-returns-3 : (t : ℕ) → put-digits-lts.Need-returns-3 (called t) (put-digits-at t) put-digits.Post
 put-digits-returns-3 t c =
     let a = c .before .before .before .before .before .before .before .before .before .before .before .args in
     rw (digits-more (a .k) (a .n) (omega arith) (omega arith)) (then (c .before .before .before .before .before .before .put-digits .ensures) (c .before .before .put-u83 .ensures))
 
 pub +put-digits-spec : {M : Type 1} → statement M
-+put-digits-spec = close μ-put-digits λ t. put-digits-lts.spec (
-  put-u8-reads.Asked,
-  put-u8-reads.Learnt,
-  put-digits-below t,
-  put-digits.Post,
-)
++put-digits-spec = close μ-put-digits λ t. put-digits-lts.spec
+    (called t)
     (put-digits-at t)
     put-digits.Post
-    (put-digits-cast-digit t)
-    (put-digits-add-digit t)
-    (put-digits-put-u8-requires t)
-    (put-digits-same-length t)
+    (search needs)
+    (search needs)
+    (search needs)
+    (search needs)
     (put-digits-returns t)
-    (put-digits-put-u8-requires-2 t)
-    (put-digits-same-length-2 t)
+    (search needs)
+    (search needs)
     (put-digits-returns-2 t)
-    (put-digits-sub-put-digits t)
-    (put-digits-put-digits-requires t)
+    (search needs)
+    (search needs)
     (put-digits-put-u8-requires-3 t)
-    (put-digits-same-length-3 t)
+    (search needs)
     (put-digits-returns-3 t)

@@ -25,68 +25,18 @@ put-hex-at t = and 1 put-hex-kinds.ps (is 1 put-hex-kinds.ps μ-put-hex t) put-h
 abbrev put-hex-below : ℕ → In 1 put-hex-kinds.ps
 put-hex-below t = and 1 put-hex-kinds.ps (falls 1 put-hex-kinds.ps _<_ μ-put-hex t) put-hex.Pre
 
-put-hex-returns : (t : ℕ) → put-hex-lts.Need-returns (
-  put-hex-below t,
-  put-hex.Post,
-  hex-digit-reads.Asked,
-  hex-digit-reads.Learnt,
-  put-u8-reads.Asked,
-  put-u8-reads.Learnt,
-) (put-hex-at t) put-hex.Post
+-- the contracts of the functions that are called
+abbrev called : ℕ → put-hex-lts.Claims
+called t = (put-hex-below t, put-hex.Post, hex-digit-reads.Asked, hex-digit-reads.Learnt, put-u8-reads.Asked, put-u8-reads.Learnt)
+
+put-hex-returns : (t : ℕ) → put-hex-lts.Need-returns (called t) (put-hex-at t) put-hex.Post
 unfolding hex
 put-hex-returns t c =
     let a = c .before .before .args in
     let e : a .k ≡ 0 = c .if1 .taken in
     rw e (nothing _ _)
 
-put-hex-sub-put-hex : (t : ℕ) → put-hex-lts.Need-sub-put-hex (
-  put-hex-below t,
-  put-hex.Post,
-  hex-digit-reads.Asked,
-  hex-digit-reads.Learnt,
-  put-u8-reads.Asked,
-  put-u8-reads.Learnt,
-) (put-hex-at t) put-hex.Post
-put-hex-sub-put-hex t c = search needs
-
-put-hex-put-hex-requires : (t : ℕ) → put-hex-lts.Need-put-hex-requires (
-  put-hex-below t,
-  put-hex.Post,
-  hex-digit-reads.Asked,
-  hex-digit-reads.Learnt,
-  put-u8-reads.Asked,
-  put-u8-reads.Learnt,
-) (put-hex-at t) put-hex.Post
-put-hex-put-hex-requires t c κs = search needs
-
-put-hex-cast-hex-digit : (t : ℕ) → put-hex-lts.Need-cast-hex-digit (
-  put-hex-below t,
-  put-hex.Post,
-  hex-digit-reads.Asked,
-  hex-digit-reads.Learnt,
-  put-u8-reads.Asked,
-  put-u8-reads.Learnt,
-) (put-hex-at t) put-hex.Post
-put-hex-cast-hex-digit t c = search needs
-
-put-hex-hex-digit-requires : (t : ℕ) → put-hex-lts.Need-hex-digit-requires (
-  put-hex-below t,
-  put-hex.Post,
-  hex-digit-reads.Asked,
-  hex-digit-reads.Learnt,
-  put-u8-reads.Asked,
-  put-u8-reads.Learnt,
-) (put-hex-at t) put-hex.Post
-put-hex-hex-digit-requires t c κs = search needs
-
-put-hex-put-u8-requires : (t : ℕ) → put-hex-lts.Need-put-u8-requires (
-  put-hex-below t,
-  put-hex.Post,
-  hex-digit-reads.Asked,
-  hex-digit-reads.Learnt,
-  put-u8-reads.Asked,
-  put-u8-reads.Learnt,
-) (put-hex-at t) put-hex.Post
+put-hex-put-u8-requires : (t : ℕ) → put-hex-lts.Need-put-u8-requires (called t) (put-hex-at t) put-hex.Post
 put-hex-put-u8-requires t c κs =
     let a = c .before .before .before .before .before .before .before .before .args in
     let w = c .before .before .before .before .put-hex .ensures in
@@ -94,44 +44,22 @@ put-hex-put-u8-requires t c κs =
     let g = kept w in
     omega (arith, w .place)
 
-put-hex-same-length : (t : ℕ) → put-hex-lts.Need-same-length (
-  put-hex-below t,
-  put-hex.Post,
-  hex-digit-reads.Asked,
-  hex-digit-reads.Learnt,
-  put-u8-reads.Asked,
-  put-u8-reads.Learnt,
-) (put-hex-at t) put-hex.Post
-put-hex-same-length t c = search needs
-
-put-hex-returns-2 : (t : ℕ) → put-hex-lts.Need-returns-2 (
-  put-hex-below t,
-  put-hex.Post,
-  hex-digit-reads.Asked,
-  hex-digit-reads.Learnt,
-  put-u8-reads.Asked,
-  put-u8-reads.Learnt,
-) (put-hex-at t) put-hex.Post
+put-hex-returns-2 : (t : ℕ) → put-hex-lts.Need-returns-2 (called t) (put-hex-at t) put-hex.Post
 put-hex-returns-2 t c =
     let a = c .before .before .before .before .before .before .before .before .before .before .before .args in
-    rw (hex-more (a .k) (a .n) (omega arith)) (then (c .before .before .before .before .before .before .before .put-hex .ensures) (rw (← (c .before .before .before .hex-digit .ensures)) (c .before .before .put-u8 .ensures)))
+    rw (hex-more (a .k) (a .n) (omega arith))
+    (then (c .before .before .before .before .before .before .before .put-hex .ensures) (rw (← (c .before .before .before .hex-digit .ensures)) (c .before .before .put-u8 .ensures)))
 
 pub +put-hex-spec : {M : Type 1} → statement M
-+put-hex-spec = close μ-put-hex λ t. put-hex-lts.spec (
-  put-hex-below t,
-  put-hex.Post,
-  hex-digit-reads.Asked,
-  hex-digit-reads.Learnt,
-  put-u8-reads.Asked,
-  put-u8-reads.Learnt,
-)
++put-hex-spec = close μ-put-hex λ t. put-hex-lts.spec
+    (called t)
     (put-hex-at t)
     put-hex.Post
     (put-hex-returns t)
-    (put-hex-sub-put-hex t)
-    (put-hex-put-hex-requires t)
-    (put-hex-cast-hex-digit t)
-    (put-hex-hex-digit-requires t)
+    (search needs)
+    (search needs)
+    (search needs)
+    (search needs)
     (put-hex-put-u8-requires t)
-    (put-hex-same-length t)
+    (search needs)
     (put-hex-returns-2 t)

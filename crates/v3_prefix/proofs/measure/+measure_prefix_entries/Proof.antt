@@ -8,6 +8,7 @@ use borrow.Fn.Kinds.{In}
 use borrow.Fn.PlainCycle.{Measures, is, falls, and}
 use Rattle.format.specs.Cut.{cut, after}
 use Rattle.format.specs.Strip.{encode}
+use Rattle.format.specs.V3.{entryFits}
 use Rattle.format.proofs.Prefix.{fits-inside}
 use Rattle.util.proofs.Laws.{some-of, none-of}
 use Rattle.format.proofs.Lengths.{at-most}
