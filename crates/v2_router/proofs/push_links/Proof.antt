@@ -22,18 +22,6 @@ Inv-loop strip₀ at body o count a₀ rest₀ start₀ left₀ strip a rest sta
 abbrev μ-loop : tie.MeasureT-loop
 μ-loop strip₀ at body o count a₀ rest₀ start₀ left₀ strip a rest start left = left
 
-sub-rest : tie.Need-sub-rest Inv-loop μ-loop
-sub-rest c = search needs
-
-part-rest-start : tie.Need-part-rest-start Inv-loop μ-loop
-part-rest-start c = search needs
-
-part-rest-end : tie.Need-part-rest-end Inv-loop μ-loop
-part-rest-end c = search needs
-
-add-start : tie.Need-add-start Inv-loop μ-loop
-add-start c = search needs
-
 loop-holds : tie.Need-loop-holds Inv-loop μ-loop
 loop-holds c =
     let s = c .before .before .before in
@@ -48,23 +36,16 @@ loop-holds c =
 sub-end : tie.Need-sub-end Inv-loop μ-loop
 sub-end c = omega (arith, left-length (c .before .loop .inv))
 
-link-fits-requires : tie.Need-link-fits-requires Inv-loop μ-loop
-link-fits-requires c κs = search needs
-
-enum-known-n : tie.Need-enum-known-n Inv-loop μ-loop
-enum-known-n c = search needs
-
-enum-told : tie.Need-enum-told Inv-loop μ-loop
-enum-told c = search needs
-
 sub-end-2 : tie.Need-sub-end-2 Inv-loop μ-loop
 sub-end-2 c = omega (arith, left-length (c .before .before .before .before .loop .inv))
 
 -- The link at the front of what is left, and as it stands in the body.
 front : (c : tie.After-push-link-arg Inv-loop μ-loop) → linkRule (c .before .before .before .before .before .before .loop .rest .now) 0 ≡ some (c .before .before .n .given .0 .0)
-front c = some-of _ _ (c .before .before .before .before .link-fits .result) (c .before .before .before .before .link-fits .ensures) (c .before .before .n .given .1)
+front c = let k = c .before .before .before .before .link-fits in some-of _ _ (k .result) (k .ensures) (c .before .before .n .given .1)
 
-fits : (c : tie.After-push-link-arg Inv-loop μ-loop) → linkRule (c .before .before .before .before .before .before .before .before .before .before .args .body .now) (c .before .before .before .before .before .before .loop .inv .pos) ≡ some (c .before .before .n .given .0 .0)
+fits : (c : tie.After-push-link-arg Inv-loop μ-loop) →
+    let b = c .before .before .before .before .before .before .before .before .before .before .args .body .now in
+    linkRule b (c .before .before .before .before .before .before .loop .inv .pos) ≡ some (c .before .before .n .given .0 .0)
 fits c = sym (left-rule (c .before .before .before .before .before .before .loop .inv)) ∙ front c
 
 push-link-requires : tie.Need-push-link-requires Inv-loop μ-loop
@@ -73,7 +54,8 @@ push-link-requires c κs =
     let g = c .before .before .before .before .before .before .loop .inv in
     let e = left-link g _ (fits c) in
     let l = left-length g in
-    (rw e (room linkRule _ _ _ 4 _ _ _ (g .writing) (omega arith) (fits c) (c .before .before .before .before .before .before .before .before .before .before .pre .0)), (front c, omega (arith, g .starts)))
+    let m = c .before .before .before .before .before .before .before .before .before .before .pre .0 in
+    (rw e (room linkRule _ _ _ 4 _ _ _ (g .writing) (omega arith) (fits c) m), (front c, omega (arith, g .starts)))
 
 sub-rest-2 : tie.Need-sub-rest-2 Inv-loop μ-loop
 sub-rest-2 c = let h = link-inside _ 0 _ (front (c .before .before .before)) in omega arith
@@ -95,12 +77,6 @@ add-start-2 c =
     let g = c .before .before .before .before .before .before .before .before .before .before .loop .inv in
     let h = link-inside _ _ _ (fits (c .before .before .before .before)) in
     omega (arith, g .starts)
-
-sub-left : tie.Need-sub-left Inv-loop μ-loop
-sub-left c = search needs
-
-loop-less : tie.Need-loop-less Inv-loop μ-loop
-loop-less c = search needs
 
 loop-again : tie.Need-loop-again Inv-loop μ-loop
 loop-again c =
@@ -147,15 +123,15 @@ push-links-spec =
     (tie.spec
     Inv-loop
     μ-loop
-    sub-rest
-    part-rest-start
-    part-rest-end
-    add-start
+    (search needs)
+    (search needs)
+    (search needs)
+    (search needs)
     loop-holds
     sub-end
-    link-fits-requires
-    enum-known-n
-    enum-told
+    (search needs)
+    (search needs)
+    (search needs)
     sub-end-2
     push-link-requires
     sub-rest-2
@@ -163,8 +139,8 @@ push-links-spec =
     part-rest-end-2
     cast-start
     add-start-2
-    sub-left
-    loop-less
+    (search needs)
+    (search needs)
     loop-again
     same-length
     returns
