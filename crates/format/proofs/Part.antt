@@ -9,11 +9,11 @@ use mathlib.Core.Bool.{Bool, true, false, cond}
 use mathlib.Core.List.{List, [], _∷_, _++_, List·Memᴰ}
 use mathlib.Core.Option.{Option, none, some}
 use lib.ListN.{length, take, drop, length-append, length-drop}
-use lib.Seq.{length-take-le, drop-append-add, drop-append-le, take-append-le}
+use lib.Seq.{sets, length-take-le, drop-append-add, drop-append-le, take-append-le}
 use lib.Dec.{ltb, leb}
 use borrow.Author.Tests.{ltb-true, ltb-false, leb-true, leb-false, le-ltb, le-leb, lt-leb}
 use Rattle.format.specs.Bytes.{part}
-use Rattle.format.specs.Strip.{Entry, Step, stepAt, readFrom, readAll}
+use Rattle.format.specs.Strip.{Entry, Step, encode, stepAt, readFrom, readAll}
 use Rattle.format.specs.Strip.Entry.{bytes}
 use Rattle.format.specs.Strip.Step.{entry, end, refused}
 use Rattle.format.specs.Header.{headerSize}
@@ -125,7 +125,7 @@ names d o s e l = record {
         record { from = omega arith; ordered = l .ordered; to = omega arith }
 
 -- What is read whole is read step by step.
-pub reads-from : (k : ℕ) (s : List ℕ) (p : ℕ) (es : List Entry) → readFrom k s p ≡ some es → Reads s p es
+reads-from : (k : ℕ) (s : List ℕ) (p : ℕ) (es : List Entry) → readFrom k s p ≡ some es → Reads s p es
 unfolding readFrom
 reads-from zero s p es h = let z : _≡_ {A = ℕ} 0 1 = cc in absurd (omega arith)
 reads-from (suc k) s p es h = go (stepAt s p) refl h (reads-from k s)
@@ -144,15 +144,19 @@ reads-from (suc k) s p es h = go (stepAt s p) refl h (reads-from k s)
     go end e h ih = let z : [] ≡ es = cc in rw (← z) (ends e)
     go (refused n) e h ih = let z : _≡_ {A = ℕ} 0 1 = cc in absurd (omega arith)
 
+-- A strip that was written to the front of a buffer reads as its entries.
+pub reads-strip : (es : List Entry) (before : List ℕ) → length (encode es) ≤ length before → Reads (take (length (encode es)) (sets before 0 (encode es))) 0 es
+unfolding readAll
+reads-strip es before h = reads-from _ _ 0 es (read-strip es before h)
+
 -- A call with no refusal leaves a strip that reads as the walk's entries.
 gives-back : (d : List ℕ) (o n : ℕ) (es : List Entry) (r t : ℕ) (before : List ℕ) → (n ≡ 0 → Laid anything o (o + length d) es)
     → answerOf (unless n (accepted es r t)) (length before) .number ≡ 0
     → GivesBack d o (take (answerOf (unless n (accepted es r t)) (length before) .size) (stripOf (unless n (accepted es r t)) before)) es
-unfolding readAll
 gives-back d o n es r t before w h =
     let k = taken n es r t before h in
     let l = w (k .not-refused) in
-    rw (k .answered, k .written) (record { reads = reads-from _ _ 0 es (read-strip es before (k .fits)); laid = l; parts = named l })
+    rw (k .answered, k .written) (record { reads = reads-strip es before (k .fits); laid = l; parts = named l })
   where
     named : Laid anything o (o + length d) es → (i s e : ℕ) → List·Memᴰ (bytes i s e) es → Names d o s e
     named l i s e m =

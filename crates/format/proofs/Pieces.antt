@@ -9,7 +9,7 @@ use lib.Seq.{drop-drop, take-append-seam, drop-append-seam}
 use lib.Dec.{ltb, eqb}
 use borrow.Author.Tests.{ltb-true, ltb-false, ne-eqb}
 use Rattle.format.specs.Bytes.{part}
-use Rattle.format.specs.Strip.{Entry, encode, stepAt, readAll}
+use Rattle.format.specs.Strip.{Entry, encode, stepAt}
 use Rattle.format.specs.Strip.Entry.{opens, closes, u8, u16, u32, ip4, ip6, bytes}
 use Rattle.format.specs.Strip.Step.{entry}
 use Rattle.format.specs.Walks.{Outcome, answerOf, stripOf}
@@ -21,8 +21,7 @@ use Rattle.format.specs.Pieces.{Lines, lines, linesFrom, linesAt, shownP
 use Rattle.format.specs.Pieces.Pieces.{ends, goes}
 use Rattle.format.specs.Pieces.Row.{row}
 use Rattle.format.proofs.Steps.{steps as step-table}
-use Rattle.format.proofs.Shown.{read-strip}
-use Rattle.format.proofs.Part.{reads-from}
+use Rattle.format.proofs.Part.{reads-strip}
 
 -- A step over an entry goes forward, and not beyond the strip's end.
 pub forward : (s : List ℕ) (p : ℕ) (x : Entry) (q : ℕ) → stepAt s p ≡ entry x q → (p < q) × (q ≤ length s)
@@ -119,7 +118,7 @@ finish text w s p room m l h =
 
 -- The strip that is printed from reads as the entries whose lines follow the first.
 reads-shown : (o : Outcome) (before : List ℕ) → Reads (shownPart (answerOf o (length before)) (stripOf o before)) 0 (shownOf o (length before))
-unfolding answerOf stripOf shownPart stepAt readAll
+unfolding answerOf stripOf shownPart stepAt
 reads-shown (refusing n) before = nothing (eqb n 0)
   where
     nothing : (t : Bool) → Reads (cond t (take 0 before) []) 0 []
@@ -130,7 +129,7 @@ reads-shown (accepted es r t) before = go (ltb (length before) (length (encode e
     go : (x : Bool) → ltb (length before) (length (encode es)) ≡ x
         → Reads (shownPart (answerOf (accepted es r t) (length before)) (stripOf (accepted es r t) before)) 0 (shownOf (accepted es r t) (length before))
     go true e = rw e (reads-end refl)
-    go false e = rw e (reads-from _ _ 0 es (read-strip es before (ltb-false _ _ e)))
+    go false e = rw e (reads-strip es before (ltb-false _ _ e))
 
 -- After the first line, what is left of the program's text are the lines of the strip that is printed from.
 pub begin : (input before : List ℕ) → length before ≡ 65536

@@ -1,16 +1,21 @@
--- A cut taken some entries at a time, and what a cut depends on: begun again at the place where its first entries end,
--- with the count still due, it goes on as it would have; and it is the same for two bodies of which its rule says the
--- same at the places that it comes to.
+-- A cut taken some entries at a time, and what a cut depends on. Begun again where its first entries end, with the count
+-- still due, it goes on as it would have; it is the same for two bodies of which its rule says the same at the places that
+-- it comes to; and what is lent from a place on has the cut of the body there.
 use Prim.Native.Nat.{ℕ, zero, suc, _+_, _-_, _≤_, _<_, suc-le-suc}
-use native.Mathlib.Nat.{zero-add, suc-add, le-of-suc-le-suc, not-suc-le-zero}
+use native.Mathlib.Nat.{zero-add, suc-add, add-assoc, le-of-suc-le-suc, not-suc-le-zero}
 use native.Mathlib.Omega.{arith}
 use mathlib.Core.Path.{_≡_, refl, sym, ap, _∙_}
 use mathlib.Core.Logic.{_⊎_, inl, inr, ⊎-elim}
-use mathlib.Core.List.{List, _∷_, _++_, List·Memᴰ, List·Memᴰ·cases-cons, List·Memᴰ·not-nil}
+use mathlib.Core.List.{List, _∷_, _++_, map, List·Memᴰ, List·Memᴰ·cases-cons, List·Memᴰ·not-nil}
 use mathlib.Core.List.List·Memᴰ.{List·Memᴰ·head, List·Memᴰ·tail}
+use mathlib.Core.Bool.{Bool, true, false, cond}
 use mathlib.Core.Option.{Option, none, some}
-use lib.ListN.{length, getD, take}
-use Rattle.format.specs.Cut.{Span, Rule, cut, after, Stands, standing, recordRule}
+use lib.ListN.{length, getD, take, drop, length-drop}
+use lib.Seq.{getD-drop}
+use lib.Dec.{leb}
+use borrow.Author.Tests.{leb-true, leb-false, le-leb, lt-leb}
+use Rattle.format.specs.Bytes.{be16At}
+use Rattle.format.specs.Cut.{Span, Rule, cut, after, Stands, standing, fitting, recordRule}
 use Rattle.format.specs.Cut.Stands.{done, next}
 use Rattle.format.proofs.CutInto.{record-stands}
 use Rattle.format.proofs.Laid.{after-from}
@@ -129,3 +134,38 @@ record-edited b c count p s m same here before past = records-same b c same coun
         record { high = before (t .at + 18) (omega arith); low = before (t .at + 19) (omega arith) })
         (beyond (t .at)))
         (apart stands s t m k)
+
+-- A rule asks the same of what is lent from the place q on as it asks of the body there.
+module _ (b : List ℕ) (q : ℕ) (h : q ≤ length b) where
+  lent-test : (m : ℕ) → leb m (length (drop q b)) ≡ leb (q + m) (length b)
+  lent-test m = go (leb (q + m) (length b)) refl
+    where
+      go : (t : Bool) → leb (q + m) (length b) ≡ t → leb m (length (drop q b)) ≡ t
+      go true e = le-leb m (length (drop q b)) (let l = leb-true (q + m) (length b) e in let d = length-drop q b in omega arith)
+      go false e = lt-leb m (length (drop q b)) (let l = leb-false (q + m) (length b) e in let d = length-drop q b in omega arith)
+
+  pub lent-stands : (least : ℕ) (declared : Rule) (p : ℕ) → declared (drop q b) p ≡ declared b (q + p) → standing least declared (drop q b) p ≡ standing least declared b (q + p)
+  unfolding standing
+  lent-stands least declared p e = rw (e, lent-test (p + least), add-assoc q p least) (go (leb (q + (p + least)) (length b)) (declared b (q + p)))
+    where
+      go : (t : Bool) (o : Option ℕ) → cond {A = Option ℕ} t (elim o [ none ↦ none | some n ↦ fitting least (drop q b) p n ]) none
+          ≡ cond {A = Option ℕ} t (elim o [ none ↦ none | some n ↦ fitting least b (q + p) n ]) none
+      go t none = refl
+      go t (some n) = rw (lent-test (p + n), add-assoc q p n) refl
+
+  pub record-lent : (p : ℕ) → recordRule (drop q b) p ≡ recordRule b (q + p)
+  record-lent p = lent-stands 20 (λ b p. some (be16At b (p + 18))) p (simp (getD-drop, add-assoc))
+
+-- Each place of a span is q further on.
+abbrev pub further : ℕ → Span → Span
+further q s = span (q + s .at) (s .len)
+
+-- What is lent from the place q on has the cut of the body there.
+pub cut-lent : (r : Rule) (b c : List ℕ) (q : ℕ) → ((p : ℕ) → r c p ≡ r b (q + p)) → (k p : ℕ) → cut r b k (q + p) ≡ map (further q) (cut r c k p)
+unfolding cut
+cut-lent r b c q h zero p = refl
+cut-lent r b c q h (suc k) p = go (r c p) refl (cut-lent r b c q h k)
+  where
+    go : (o : Option ℕ) → r c p ≡ o → ((p : ℕ) → cut r b k (q + p) ≡ map (further q) (cut r c k p)) → cut r b (suc k) (q + p) ≡ map (further q) (cut r c (suc k) p)
+    go none e ih = rw (cut-none r b (suc k) (q + p) (sym (h p) ∙ e), cut-none r c (suc k) p e) refl
+    go (some n) e ih = rw (cut-some r b k (q + p) n (sym (h p) ∙ e), cut-some r c k p n e, add-assoc q p n) (ap (λ (ss : List Span). span (q + p) n ∷ ss) (ih (p + n)))

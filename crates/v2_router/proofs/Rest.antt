@@ -1,19 +1,17 @@
 -- A link that is lent from its place on, with what follows it, is the link of the body there.
 use Prim.Native.Nat.{ℕ, zero, suc, _+_, _-_, _*_, _≤_, _<_}
-use native.Mathlib.Nat.{add-zero, zero-add, add-assoc}
+use native.Mathlib.Nat.{add-zero, add-assoc}
 use native.Mathlib.Omega.{arith}
-use mathlib.Core.Bool.{Bool, true, false}
 use mathlib.Core.Path.{_≡_, refl, ap, _∙_}
 use mathlib.Core.List.{List, _++_, flatMap}
 use mathlib.Core.Option.{some}
 use lib.ListN.{length, getD, take, drop, length-drop}
 use lib.Seq.{getD-drop, drop-drop}
-use lib.Dec.{leb}
-use borrow.Author.Tests.{leb-true, leb-false, le-leb, lt-leb}
 use Rattle.format.specs.Strip.{Entry, container}
-use Rattle.format.specs.Cut.{cut, standing, linkRule, fixedRule}
+use Rattle.format.specs.Cut.{cut, linkRule, fixedRule}
 use Rattle.format.specs.Body.{listing, listingIfAny}
 use Rattle.format.specs.V2.{link, linkFields, linkTos}
+use Rattle.format.proofs.Rest.{lent-stands}
 use Rattle.format.proofs.Unique.{span, cut-some}
 use Rattle.format.proofs.Lists.{fixed-stands, fixed-cut}
 use Rattle.format.proofs.Loop.{Writing}
@@ -44,16 +42,8 @@ module _ (l b : List ℕ) (o p n : ℕ) (same : Same l b p n) where
   )
 
 module _ (b : List ℕ) (o p : ℕ) (h : p ≤ length b) where
-  tested : (m : ℕ) → leb m (length (drop p b)) ≡ leb (p + m) (length b)
-  tested m = go (leb (p + m) (length b)) refl
-    where
-      go : (t : Bool) → leb (p + m) (length b) ≡ t → leb m (length (drop p b)) ≡ t
-      go true e = le-leb m (length (drop p b)) (let q = leb-true (p + m) (length b) e in let d = length-drop p b in omega arith)
-      go false e = lt-leb m (length (drop p b)) (let q = leb-false (p + m) (length b) e in let d = length-drop p b in omega arith)
-
   pub rest-rule : linkRule (drop p b) 0 ≡ linkRule b p
-  unfolding standing
-  rest-rule = rw (getD-drop p b 9 0, zero-add (12 + getD b (p + 9) 0 * 4), tested 12, tested (12 + getD b (p + 9) 0 * 4))
+  rest-rule = lent-stands b p h 12 (λ b p. some (12 + getD b (p + 9) 0 * 4)) 0 (rw (getD-drop p b 9 0, add-zero) refl) ∙ ap (linkRule b) (add-zero p)
 
   entries : (k q : ℕ) → p + q + k * 4 ≤ length b
       → flatMap (linkTos (drop p b) (o + p)) (cut (fixedRule 4) (drop p b) k q) ≡ flatMap (linkTos b o) (cut (fixedRule 4) b k (p + q))

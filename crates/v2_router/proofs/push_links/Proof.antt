@@ -36,17 +36,16 @@ loop-holds c =
 sub-end : tie.Need-sub-end Inv-loop μ-loop
 sub-end c = omega (arith, left-length (c .before .loop .inv))
 
-enum-told : tie.Need-enum-told Inv-loop μ-loop
-enum-told c = search needs
-
 sub-end-2 : tie.Need-sub-end-2 Inv-loop μ-loop
 sub-end-2 c = omega (arith, left-length (c .before .before .before .before .loop .inv))
 
 -- The link at the front of what is left, and as it stands in the body.
 front : (c : tie.After-push-link-arg Inv-loop μ-loop) → linkRule (c .before .before .before .before .before .before .loop .rest .now) 0 ≡ some (c .before .before .n .given .0 .0)
-front c = some-of _ _ (c .before .before .before .before .link-fits .result) (c .before .before .before .before .link-fits .ensures) (c .before .before .n .given .1)
+front c = let k = c .before .before .before .before .link-fits in some-of _ _ (k .result) (k .ensures) (c .before .before .n .given .1)
 
-fits : (c : tie.After-push-link-arg Inv-loop μ-loop) → linkRule (c .before .before .before .before .before .before .before .before .before .before .args .body .now) (c .before .before .before .before .before .before .loop .inv .pos) ≡ some (c .before .before .n .given .0 .0)
+fits : (c : tie.After-push-link-arg Inv-loop μ-loop) →
+    let b = c .before .before .before .before .before .before .before .before .before .before .args .body .now in
+    linkRule b (c .before .before .before .before .before .before .loop .inv .pos) ≡ some (c .before .before .n .given .0 .0)
 fits c = sym (left-rule (c .before .before .before .before .before .before .loop .inv)) ∙ front c
 
 push-link-requires : tie.Need-push-link-requires Inv-loop μ-loop
@@ -55,7 +54,8 @@ push-link-requires c κs =
     let g = c .before .before .before .before .before .before .loop .inv in
     let e = left-link g _ (fits c) in
     let l = left-length g in
-    (rw e (room linkRule _ _ _ 4 _ _ _ (g .writing) (omega arith) (fits c) (c .before .before .before .before .before .before .before .before .before .before .pre .0)), (front c, omega (arith, g .starts)))
+    let m = c .before .before .before .before .before .before .before .before .before .before .pre .0 in
+    (rw e (room linkRule _ _ _ 4 _ _ _ (g .writing) (omega arith) (fits c) m), (front c, omega (arith, g .starts)))
 
 sub-rest-2 : tie.Need-sub-rest-2 Inv-loop μ-loop
 sub-rest-2 c = let h = link-inside _ 0 _ (front (c .before .before .before)) in omega arith
@@ -120,5 +120,5 @@ returns-2 c =
 pub push-links-spec : {M : Type 1} → statement M
 push-links-spec = tie.close (tie.spec
     Inv-loop μ-loop (search needs) (search needs) (search needs) (search needs) loop-holds sub-end (search needs)
-    (search needs) enum-told sub-end-2 push-link-requires sub-rest-2 part-rest-start-2 part-rest-end-2 cast-start
+    (search needs) (search needs) sub-end-2 push-link-requires sub-rest-2 part-rest-start-2 part-rest-end-2 cast-start
     add-start-2 (search needs) (search needs) loop-again same-length returns same-length-2 returns-2)

@@ -24,11 +24,19 @@ abbrev μ-loop : tie.MeasureT-loop
 loop-holds : tie.Need-loop-holds Inv-loop μ-loop
 loop-holds c = (begin prefixRule _ _ _ _ _ _ _ _ refl refl, search needs)
 
-enum-told : tie.Need-enum-told Inv-loop μ-loop
-enum-told c = search needs
-
-fits : (c : tie.After-known-told Inv-loop μ-loop) → entryFits (c .before .before .before .before .before .before .before .before .args .body .now) (c .before .before .before .before .before .loop .pos) ≡ some (c .before .n .given .0 .0)
+fits : (c : tie.After-known-told Inv-loop μ-loop) →
+    let b = c .before .before .before .before .before .before .before .before .args .body .now in
+    entryFits b (c .before .before .before .before .before .loop .pos) ≡ some (c .before .n .given .0 .0)
 fits c = let k = c .before .before .before in some-of _ _ (k .entry-fits .result) (k .entry-fits .ensures) (c .before .n .given .1)
+
+-- the entry lies in the body
+lies : (c : tie.After-known-told Inv-loop μ-loop) →
+    let b = c .before .before .before .before .before .before .before .before .args .body .now in
+    (c .before .before .before .before .before .loop .pos + 4 + c .before .n .given .0 .0 ≤ length b) × (c .before .n .given .0 .0 ≤ 16)
+lies c =
+    let b = c .before .before .before .before .before .before .before .before .args .body .now in
+    let p = c .before .before .before .before .before .loop .pos in
+    fits-inside b (getD b p 0) (p + 4) _ (fits c)
 
 push-prefix-requires : tie.Need-push-prefix-requires Inv-loop μ-loop
 unfolding spread
@@ -36,37 +44,22 @@ push-prefix-requires c κs =
     let s = c .before .before .before .before .before .before .before .before .before in
     let b = s .args .body .now in
     let l = c .before .before .before .before .before .before .loop in
-    let f = fits (c .before) in
-    let i = fits-inside b (getD b (l .pos) 0) (l .pos + 4) _ f in
-    let m = room prefixRule _ _ _ _ _ _ _ (l .inv .0) (omega arith) (entry-stands b (l .pos) _ f) (s .pre .0) in
+    let i = lies (c .before) in
+    let m = room prefixRule _ _ _ _ _ _ _ (l .inv .0) (omega arith) (entry-stands b (l .pos) _ (fits (c .before))) (s .pre .0) in
     omega arith
 
 add-pos : tie.Need-add-pos Inv-loop μ-loop
-add-pos c =
-    let s = c .before .before .before .before .before .before .before .before .before .before .before .before in
-    let b = s .args .body .now in
-    let l = c .before .before .before .before .before .before .before .before .before .loop in
-    let f = fits (c .before .before .before .before) in
-    let i = fits-inside b (getD b (l .pos) 0) (l .pos + 4) _ f in
-    omega arith
+add-pos c = let i = lies (c .before .before .before .before) in omega arith
 
 add-pos-2 : tie.Need-add-pos-2 Inv-loop μ-loop
-add-pos-2 c =
-    let s = c .before .before .before .before .before .before .before .before .before .before .before .before in
-    let b = s .args .body .now in
-    let l = c .before .before .before .before .before .before .before .before .before .loop in
-    let f = fits (c .before .before .before .before) in
-    let i = fits-inside b (getD b (l .pos) 0) (l .pos + 4) _ f in
-    omega arith
+add-pos-2 c = let i = lies (c .before .before .before .before) in omega arith
 
 loop-again : tie.Need-loop-again Inv-loop μ-loop
 loop-again c =
-    let s = c .before .before .before .before .before .before .before .before .before .before .before .before in
-    let b = s .args .body .now in
+    let b = c .before .before .before .before .before .before .before .before .before .before .before .before .args .body .now in
     let l = c .before .before .before .before .before .before .before .before .before .loop in
-    let f = fits (c .before .before .before .before) in
-    let i = fits-inside b (getD b (l .pos) 0) (l .pos + 4) _ f in
-    (turn prefixRule _ _ _ _ _ _ _ (l .inv .0) (omega arith) (entry-stands b (l .pos) _ f) (c .before .before .push-prefix .ensures), omega arith)
+    let i = lies (c .before .before .before .before) in
+    (turn prefixRule _ _ _ _ _ _ _ (l .inv .0) (omega arith) (entry-stands b (l .pos) _ (fits (c .before .before .before .before))) (c .before .before .push-prefix .ensures), omega arith)
 
 same-length : tie.Need-same-length Inv-loop μ-loop
 same-length c = kept (c .before .loop .inv .0 .so-far)
@@ -94,5 +87,5 @@ returns-2 c =
 
 pub push-prefix-entries-spec : {M : Type 1} → statement M
 push-prefix-entries-spec = tie.close (tie.spec
-    Inv-loop μ-loop loop-holds (search needs) (search needs) enum-told push-prefix-requires add-pos add-pos-2
+    Inv-loop μ-loop loop-holds (search needs) (search needs) (search needs) push-prefix-requires add-pos add-pos-2
     (search needs) (search needs) loop-again same-length returns same-length-2 returns-2)

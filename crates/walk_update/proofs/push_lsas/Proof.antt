@@ -23,11 +23,10 @@ abbrev μ-loop : tie.MeasureT-loop
 loop-holds : tie.Need-loop-holds Inv-loop μ-loop
 loop-holds c = (begin recordRule _ _ _ 4 _ _ _ _ refl refl, omega arith)
 
-enum-told : tie.Need-enum-told Inv-loop μ-loop
-enum-told c = search needs
-
-fits : (c : tie.After-push-lsa-object-arg Inv-loop μ-loop) → recordRule (c .before .before .before .before .before .before .before .before .before .args .data .now) (c .before .before .before .before .before .before .loop .pos) ≡ some (c .before .before .n .given .0 .0)
-fits c = some-of _ _ (c .before .before .before .before .record-fits .result) (c .before .before .before .before .record-fits .ensures) (c .before .before .n .given .1)
+fits : (c : tie.After-push-lsa-object-arg Inv-loop μ-loop) →
+    let d = c .before .before .before .before .before .before .before .before .before .args .data .now in
+    recordRule d (c .before .before .before .before .before .before .loop .pos) ≡ some (c .before .before .n .given .0 .0)
+fits c = let k = c .before .before .before .before .record-fits in some-of _ _ (k .result) (k .ensures) (c .before .before .n .given .1)
 
 push-lsa-object-requires : tie.Need-push-lsa-object-requires Inv-loop μ-loop
 unfolding spread
@@ -45,7 +44,8 @@ add-pos c =
 loop-again : tie.Need-loop-again Inv-loop μ-loop
 loop-again c =
     let d = c .before .before .before in
-    (turn recordRule _ _ _ 4 _ _ _ (c .before .before .before .before .before .before .before .before .before .loop .inv .0) (omega arith) (fits d) (c .before .before .push-lsa-object .ensures), inside 20 _ _ _ _ (fits d) .within)
+    let g = c .before .before .before .before .before .before .before .before .before .loop .inv .0 in
+    (turn recordRule _ _ _ 4 _ _ _ g (omega arith) (fits d) (c .before .before .push-lsa-object .ensures), inside 20 _ _ _ _ (fits d) .within)
 
 same-length : tie.Need-same-length Inv-loop μ-loop
 same-length c = kept (c .before .loop .inv .0 .so-far)
@@ -61,9 +61,11 @@ same-length-2 c = kept (c .before .before .before .before .loop .inv .0 .so-far)
 
 returns-2 : tie.Need-returns-2 Inv-loop μ-loop
 unfolding spread
-returns-2 c = finish recordRule _ _ _ 4 _ _ (c .before .before .before .before .loop .inv .0) (cut-none recordRule _ _ _ (none-of _ (c .before .before .record-fits .result) (c .before .before .record-fits .ensures) (c .enum-told .given .1))) .0
+returns-2 c =
+    let k = c .before .before .record-fits in
+    finish recordRule _ _ _ 4 _ _ (c .before .before .before .before .loop .inv .0) (cut-none recordRule _ _ _ (none-of _ (k .result) (k .ensures) (c .enum-told .given .1))) .0
 
 pub push-lsas-spec : {M : Type 1} → statement M
 push-lsas-spec = tie.close (tie.spec
-    Inv-loop μ-loop loop-holds (search needs) (search needs) enum-told push-lsa-object-requires add-pos (search needs)
-    (search needs) loop-again same-length returns same-length-2 returns-2)
+    Inv-loop μ-loop loop-holds (search needs) (search needs) (search needs) push-lsa-object-requires add-pos
+    (search needs) (search needs) loop-again same-length returns same-length-2 returns-2)

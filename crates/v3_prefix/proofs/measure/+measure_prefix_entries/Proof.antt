@@ -1,8 +1,9 @@
-use Prim.Native.Nat.{_+_, ℕ, _<_}
+use Prim.Native.Nat.{ℕ, _+_, _≤_, _<_}
 use native.Mathlib.Omega.{arith}
+use mathlib.Core.Bool.{cond}
 use mathlib.Core.List.{flatMap}
 use mathlib.Core.Path.{_≡_, refl, sym, _∙_}
-use lib.ListN.{getD}
+use lib.ListN.{length, getD}
 use borrow.Author.Needs.{needs}
 use borrow.Fn.Kinds.{In}
 use borrow.Fn.PlainCycle.{Measures, is, falls, and}
@@ -40,180 +41,52 @@ measure-prefix-entries-below t =
     (falls 1 measure-prefix-entries-kinds.ps _<_ μ-measure-prefix-entries t)
     measure-prefix-entries.Pre
 
-measure-prefix-entries-returns : (t : ℕ) → measure-prefix-entries-lts.Need-returns (
-  entry-fits-reads.Asked,
-  entry-fits-reads.Learnt,
-  present-reads.Asked,
-  present-reads.Learnt,
-  measure-prefix-entries-below t,
-  measure-prefix-entries.Post,
-) (measure-prefix-entries-at t) measure-prefix-entries.Post
+-- the contracts of the functions that are called
+abbrev called : ℕ → measure-prefix-entries-lts.Claims
+called t = (entry-fits-reads.Asked, entry-fits-reads.Learnt, present-reads.Asked, present-reads.Learnt, measure-prefix-entries-below t, measure-prefix-entries.Post)
+
+returns : (t : ℕ) → measure-prefix-entries-lts.Need-returns (called t) (measure-prefix-entries-at t) measure-prefix-entries.Post
 unfolding cut after encode flatMap
-measure-prefix-entries-returns t c =
+returns t c =
     let e : c .before .before .args .due ≡ 0 = c .if1 .taken in
     rw e (λ o. omega arith, refl)
 
-measure-prefix-entries-entry-fits-requires :
-    (t : ℕ) → measure-prefix-entries-lts.Need-entry-fits-requires (
-      entry-fits-reads.Asked,
-      entry-fits-reads.Learnt,
-      present-reads.Asked,
-      present-reads.Learnt,
-      measure-prefix-entries-below t,
-      measure-prefix-entries.Post,
-    ) (measure-prefix-entries-at t) measure-prefix-entries.Post
-measure-prefix-entries-entry-fits-requires t c κs = search needs
-
-measure-prefix-entries-enum-known-n : (t : ℕ) → measure-prefix-entries-lts.Need-enum-known-n (
-  entry-fits-reads.Asked,
-  entry-fits-reads.Learnt,
-  present-reads.Asked,
-  present-reads.Learnt,
-  measure-prefix-entries-below t,
-  measure-prefix-entries.Post,
-) (measure-prefix-entries-at t) measure-prefix-entries.Post
-measure-prefix-entries-enum-known-n t c = search needs
-
-measure-prefix-entries-enum-told : (t : ℕ) → measure-prefix-entries-lts.Need-enum-told (
-  entry-fits-reads.Asked,
-  entry-fits-reads.Learnt,
-  present-reads.Asked,
-  present-reads.Learnt,
-  measure-prefix-entries-below t,
-  measure-prefix-entries.Post,
-) (measure-prefix-entries-at t) measure-prefix-entries.Post
-measure-prefix-entries-enum-told t c = search needs
-
-measure-prefix-entries-returns-2 : (t : ℕ) → measure-prefix-entries-lts.Need-returns-2 (
-  entry-fits-reads.Asked,
-  entry-fits-reads.Learnt,
-  present-reads.Asked,
-  present-reads.Learnt,
-  measure-prefix-entries-below t,
-  measure-prefix-entries.Post,
-) (measure-prefix-entries-at t) measure-prefix-entries.Post
+returns-2 : (t : ℕ) → measure-prefix-entries-lts.Need-returns-2 (called t) (measure-prefix-entries-at t) measure-prefix-entries.Post
 unfolding after encode flatMap
-measure-prefix-entries-returns-2 t c =
+returns-2 t c =
     let a = c .before .before .before .before .before .args in
     let k = c .before .before .entry-fits in
     let e = prefixes-end (a .body .now) (a .due) (a .p) (none-of (entryFits (a .body .now) (a .p)) (k .result) (k .ensures) (c .enum-told .given .1)) in
     rw e (λ o. omega arith, refl)
 
-measure-prefix-entries-present-requires :
-    (t : ℕ) → measure-prefix-entries-lts.Need-present-requires (
-      entry-fits-reads.Asked,
-      entry-fits-reads.Learnt,
-      present-reads.Asked,
-      present-reads.Learnt,
-      measure-prefix-entries-below t,
-      measure-prefix-entries.Post,
-    ) (measure-prefix-entries-at t) measure-prefix-entries.Post
-measure-prefix-entries-present-requires t c κs = search needs
-
-measure-prefix-entries-add-entry : (t : ℕ) → measure-prefix-entries-lts.Need-add-entry (
-  entry-fits-reads.Asked,
-  entry-fits-reads.Learnt,
-  present-reads.Asked,
-  present-reads.Learnt,
-  measure-prefix-entries-below t,
-  measure-prefix-entries.Post,
-) (measure-prefix-entries-at t) measure-prefix-entries.Post
-measure-prefix-entries-add-entry t c =
+-- the next entry's octets lie in the body, and its metric takes twelve bytes at most
+next : (t : ℕ) (c : measure-prefix-entries-lts.After-present (called t) (measure-prefix-entries-at t) measure-prefix-entries.Post) →
+    let a = c .before .before .before .before .before .before .before .args in
+    (a .p + 4 + c .before .before .n .given .0 .0 ≤ length (a .body .now)) × (c .before .before .n .given .0 .0 ≤ 16) × (cond (a .with-metric) 12 0 ≤ 12)
+next t c =
     let a = c .before .before .before .before .before .before .before .args in
     let k = c .before .before .before .before .entry-fits in
     let f = some-of (entryFits (a .body .now) (a .p)) _ (k .result) (k .ensures) (c .before .before .n .given .1) in
     let i = fits-inside (a .body .now) (getD (a .body .now) (a .p) 0) (a .p + 4) _ f in
-    let h = at-most (a .with-metric) 12 in
-    omega arith
+    (i .0, i .1, at-most (a .with-metric) 12)
 
-measure-prefix-entries-add-measure-prefix-entries :
-    (t : ℕ) → measure-prefix-entries-lts.Need-add-measure-prefix-entries (
-      entry-fits-reads.Asked,
-      entry-fits-reads.Learnt,
-      present-reads.Asked,
-      present-reads.Learnt,
-      measure-prefix-entries-below t,
-      measure-prefix-entries.Post,
-    ) (measure-prefix-entries-at t) measure-prefix-entries.Post
-measure-prefix-entries-add-measure-prefix-entries t c =
-    let a = c .before .before .before .before .before .before .before .args in
-    let k = c .before .before .before .before .entry-fits in
-    let f = some-of (entryFits (a .body .now) (a .p)) _ (k .result) (k .ensures) (c .before .before .n .given .1) in
-    let i = fits-inside (a .body .now) (getD (a .body .now) (a .p) 0) (a .p + 4) _ f in
-    let h = at-most (a .with-metric) 12 in
-    omega arith
+add-entry : (t : ℕ) → measure-prefix-entries-lts.Need-add-entry (called t) (measure-prefix-entries-at t) measure-prefix-entries.Post
+add-entry t c = let i = next t c in omega arith
 
-measure-prefix-entries-add-measure-prefix-entries-2 :
-    (t : ℕ) → measure-prefix-entries-lts.Need-add-measure-prefix-entries-2 (
-      entry-fits-reads.Asked,
-      entry-fits-reads.Learnt,
-      present-reads.Asked,
-      present-reads.Learnt,
-      measure-prefix-entries-below t,
-      measure-prefix-entries.Post,
-    ) (measure-prefix-entries-at t) measure-prefix-entries.Post
-measure-prefix-entries-add-measure-prefix-entries-2 t c =
-    let a = c .before .before .before .before .before .before .before .args in
-    let k = c .before .before .before .before .entry-fits in
-    let f = some-of (entryFits (a .body .now) (a .p)) _ (k .result) (k .ensures) (c .before .before .n .given .1) in
-    let i = fits-inside (a .body .now) (getD (a .body .now) (a .p) 0) (a .p + 4) _ f in
-    let h = at-most (a .with-metric) 12 in
-    omega arith
+add-octets : (t : ℕ) → measure-prefix-entries-lts.Need-add-measure-prefix-entries (called t) (measure-prefix-entries-at t) measure-prefix-entries.Post
+add-octets t c = let i = next t c in omega arith
 
-measure-prefix-entries-sub-measure-prefix-entries :
-    (t : ℕ) → measure-prefix-entries-lts.Need-sub-measure-prefix-entries (
-      entry-fits-reads.Asked,
-      entry-fits-reads.Learnt,
-      present-reads.Asked,
-      present-reads.Learnt,
-      measure-prefix-entries-below t,
-      measure-prefix-entries.Post,
-    ) (measure-prefix-entries-at t) measure-prefix-entries.Post
-measure-prefix-entries-sub-measure-prefix-entries t c = search needs
+add-place : (t : ℕ) → measure-prefix-entries-lts.Need-add-measure-prefix-entries-2 (called t) (measure-prefix-entries-at t) measure-prefix-entries.Post
+add-place t c = let i = next t c in omega arith
 
-measure-prefix-entries-add-measure-prefix-entries-3 :
-    (t : ℕ) → measure-prefix-entries-lts.Need-add-measure-prefix-entries-3 (
-      entry-fits-reads.Asked,
-      entry-fits-reads.Learnt,
-      present-reads.Asked,
-      present-reads.Learnt,
-      measure-prefix-entries-below t,
-      measure-prefix-entries.Post,
-    ) (measure-prefix-entries-at t) measure-prefix-entries.Post
-measure-prefix-entries-add-measure-prefix-entries-3 t c =
-    let a = c .before .before .before .before .before .before .before .args in
-    let k = c .before .before .before .before .entry-fits in
-    let f = some-of (entryFits (a .body .now) (a .p)) _ (k .result) (k .ensures) (c .before .before .n .given .1) in
-    let i = fits-inside (a .body .now) (getD (a .body .now) (a .p) 0) (a .p + 4) _ f in
-    let h = at-most (a .with-metric) 12 in
-    omega arith
+add-sum : (t : ℕ) → measure-prefix-entries-lts.Need-add-measure-prefix-entries-3 (called t) (measure-prefix-entries-at t) measure-prefix-entries.Post
+add-sum t c = let i = next t c in omega arith
 
-measure-prefix-entries-measure-prefix-entries-requires :
-    (t : ℕ) → measure-prefix-entries-lts.Need-measure-prefix-entries-requires (
-      entry-fits-reads.Asked,
-      entry-fits-reads.Learnt,
-      present-reads.Asked,
-      present-reads.Learnt,
-      measure-prefix-entries-below t,
-      measure-prefix-entries.Post,
-    ) (measure-prefix-entries-at t) measure-prefix-entries.Post
-measure-prefix-entries-measure-prefix-entries-requires t c κs =
-    let a = c .before .before .before .before .before .before .before .args in
-    let k = c .before .before .before .before .entry-fits in
-    let f = some-of (entryFits (a .body .now) (a .p)) _ (k .result) (k .ensures) (c .before .before .n .given .1) in
-    let i = fits-inside (a .body .now) (getD (a .body .now) (a .p) 0) (a .p + 4) _ f in
-    let h = at-most (a .with-metric) 12 in
-    omega arith
+measure-rest-requires : (t : ℕ) → measure-prefix-entries-lts.Need-measure-prefix-entries-requires (called t) (measure-prefix-entries-at t) measure-prefix-entries.Post
+measure-rest-requires t c κs = let i = next t c in omega arith
 
-measure-prefix-entries-returns-3 : (t : ℕ) → measure-prefix-entries-lts.Need-returns-3 (
-  entry-fits-reads.Asked,
-  entry-fits-reads.Learnt,
-  present-reads.Asked,
-  present-reads.Learnt,
-  measure-prefix-entries-below t,
-  measure-prefix-entries.Post,
-) (measure-prefix-entries-at t) measure-prefix-entries.Post
-measure-prefix-entries-returns-3 t c =
+returns-3 : (t : ℕ) → measure-prefix-entries-lts.Need-returns-3 (called t) (measure-prefix-entries-at t) measure-prefix-entries.Post
+returns-3 t c =
     let a = c .before .before .before .before .before .before .before .before .args in
     let k = c .before .before .before .before .before .entry-fits in
     let f = some-of (entryFits (a .body .now) (a .p)) _ (k .result) (k .ensures) (c .before .before .before .n .given .1) in
@@ -226,26 +99,20 @@ measure-prefix-entries-returns-3 t c =
     )
 
 pub +measure-prefix-entries-spec : {M : Type 1} → statement M
-+measure-prefix-entries-spec = close μ-measure-prefix-entries λ t. measure-prefix-entries-lts.spec (
-  entry-fits-reads.Asked,
-  entry-fits-reads.Learnt,
-  present-reads.Asked,
-  present-reads.Learnt,
-  measure-prefix-entries-below t,
-  measure-prefix-entries.Post,
-)
++measure-prefix-entries-spec = close μ-measure-prefix-entries λ t. measure-prefix-entries-lts.spec
+    (called t)
     (measure-prefix-entries-at t)
     measure-prefix-entries.Post
-    (measure-prefix-entries-returns t)
-    (measure-prefix-entries-entry-fits-requires t)
-    (measure-prefix-entries-enum-known-n t)
-    (measure-prefix-entries-enum-told t)
-    (measure-prefix-entries-returns-2 t)
-    (measure-prefix-entries-present-requires t)
-    (measure-prefix-entries-add-entry t)
-    (measure-prefix-entries-add-measure-prefix-entries t)
-    (measure-prefix-entries-add-measure-prefix-entries-2 t)
-    (measure-prefix-entries-sub-measure-prefix-entries t)
-    (measure-prefix-entries-add-measure-prefix-entries-3 t)
-    (measure-prefix-entries-measure-prefix-entries-requires t)
-    (measure-prefix-entries-returns-3 t)
+    (returns t)
+    (search needs)
+    (search needs)
+    (search needs)
+    (returns-2 t)
+    (search needs)
+    (add-entry t)
+    (add-octets t)
+    (add-place t)
+    (search needs)
+    (add-sum t)
+    (measure-rest-requires t)
+    (returns-3 t)
