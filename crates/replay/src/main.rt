@@ -1,5 +1,5 @@
 // Replays files of stored calls (samples/README.md), which its arguments name: for each file how many calls it has, by walk
-// and by the number of the stored answer, and how many of them do not agree with the walks of crate common.
+// and by the number of the stored answer, and how many of them do not agree with the walks of crate `walk`.
 mod buffers;
 
 use buffers::FILE;

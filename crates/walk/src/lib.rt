@@ -1,5 +1,5 @@
-// common.rs: the walks over a header list, a link-state update and a single LSA. Each refuses by number what does not fit,
-// measures the strip, compares it with the room, and only then writes.
+// The three walks, passed on, and the one that a number names. Each refuses by number what does not fit, measures the
+// strip, compares it with the room, and only then writes.
 ghost use mathlib.Core.Path.{_≡_};
 ghost use lib.ListN.{length};
 ghost use Rattle.format.specs.Walks.{walkOf, namedOf, answerOf, stripOf};

@@ -1,4 +1,5 @@
-// The walk over a list of LSA headers, as Database Description and Link State Acknowledgment packets have it.
+// common.rs, `push_lsa_headers`: the walk over a list of LSA headers, as Database Description and Link State Acknowledgment
+// packets have it.
 ghost use mathlib.Core.Path.{_≡_};
 ghost use Prim.Native.Nat.{ℕ, _+_, _*_, _/_, _≤_, _<_};
 ghost use mathlib.Core.List.{flatMap};

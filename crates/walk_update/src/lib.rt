@@ -1,4 +1,4 @@
-// The walk over the LSAs of a Link State Update.
+// common.rs, `push_lsu_lsas`: the walk over the LSAs of a Link State Update (RFC 2328 A.3.5).
 ghost use mathlib.Core.Path.{_≡_};
 ghost use Prim.Native.Nat.{ℕ, _+_, _*_, _≤_, _<_};
 ghost use mathlib.Core.List.{flatMap};
