@@ -4,36 +4,22 @@ use Prim.Native.Nat.{ℕ, zero, suc}
 use mathlib.Core.Path.{_≡_}
 use mathlib.Core.Bool.{cond}
 use mathlib.Core.List.{List, [], _∷_, _++_, map, flatMap}
-use lib.ListN.{set}
+use lib.ListN.{getD, set}
 use lib.Dec.{eqb}
-use Rattle.format.specs.Strip.{Entry}
-use Rattle.format.specs.Strip.Entry.{opens, closes, u8, u16, u32, ip4, ip6, bytes}
+use Rattle.format.specs.Strip.{Entry, u8Kind, bytesKind, content}
+use Rattle.format.specs.Strip.Entry.{u8, u16, u32, ip4}
 use Rattle.format.specs.Walks.{lsaOf, lsaEntries}
 use Rattle.format.specs.Walks.Outcome.{accepted}
 
 -- The values of the u8 fields with this id.
 abbrev pub values : ℕ → List Entry → List ℕ
 values i [] = []
-values i (opens j s e ∷ es) = values i es
-values i (closes ∷ es) = values i es
-values i (u8 j s e v ∷ es) = cond (eqb i j) (v ∷ values i es) (values i es)
-values i (u16 j s e v ∷ es) = values i es
-values i (u32 j s e v ∷ es) = values i es
-values i (ip4 j s e a ∷ es) = values i es
-values i (ip6 j s e h l ∷ es) = values i es
-values i (bytes j s e ∷ es) = values i es
+values i (x ∷ es) = cond (eqb (content x .kind) u8Kind) (cond (eqb i (content x .id)) (getD (content x .body) 9 0 ∷ values i es) (values i es)) (values i es)
 
 -- The ids of the bytes entries.
 abbrev pub rangeIds : List Entry → List ℕ
 rangeIds [] = []
-rangeIds (opens j s e ∷ es) = rangeIds es
-rangeIds (closes ∷ es) = rangeIds es
-rangeIds (u8 j s e v ∷ es) = rangeIds es
-rangeIds (u16 j s e v ∷ es) = rangeIds es
-rangeIds (u32 j s e v ∷ es) = rangeIds es
-rangeIds (ip4 j s e a ∷ es) = rangeIds es
-rangeIds (ip6 j s e h l ∷ es) = rangeIds es
-rangeIds (bytes j s e ∷ es) = j ∷ rangeIds es
+rangeIds (x ∷ es) = cond (eqb (content x .kind) bytesKind) (content x .id ∷ rangeIds es) (rangeIds es)
 
 -- The bytes that have one bit.
 abbrev pub bits : List ℕ

@@ -11,13 +11,14 @@ use mathlib.Core.Option.{Option, none as nothing, some}
 use lib.ListN.{length}
 use lib.Dec.{ltb, eqb}
 use borrow.Author.Tests.{ltb-true, eqb-true}
-use Rattle.format.specs.Strip.{Entry, container}
-use Rattle.format.specs.Strip.Entry.{opens, closes, u8, u16, u32, ip4, ip6, bytes}
+use Rattle.format.specs.Strip.{Entry, Shape, content, container}
+use Rattle.format.specs.Strip.Entry.{opens, closes, bytes}
+use Rattle.format.specs.Strip.Shape.{opening, closing, valued, ranged}
 use Rattle.format.specs.Cut.{Span, Rule, cut, after, standing, fixedRule}
 use Rattle.format.specs.Body.{listing, listingIfAny, leftover}
 use Rattle.format.proofs.Nested.{Nested}
 use Rattle.format.proofs.Nested.Nested.{none as nested-none, field as nested-field, group as nested-group}
-use Rattle.format.specs.Laid.{start, end, Laid, among, only}
+use Rattle.format.specs.Laid.{start, end, Laid, among, passes, only}
 use Rattle.format.specs.Laid.Laid.{none, field, group}
 use Rattle.format.proofs.Unique.{span, cut-none, cut-some}
 use Rattle.format.proofs.Rules.{inside}
@@ -67,14 +68,13 @@ weaken w (group i s e t a b c m l) = group i s e (w (opens i s e) t) a b c (weak
 
 -- A test of ids asks no more where it passes all that another does.
 pub only-more : (c c′ r r′ : List ℕ) → ((i : ℕ) → among c i ≡ true → among c′ i ≡ true) → ((i : ℕ) → among r i ≡ true → among r′ i ≡ true) → (x : Entry) → only c r x ≡ true → only c′ r′ x ≡ true
-only-more c c′ r r′ f g (opens i s e) h = f i h
-only-more c c′ r r′ f g closes h = h
-only-more c c′ r r′ f g (u8 i s e v) h = h
-only-more c c′ r r′ f g (u16 i s e v) h = h
-only-more c c′ r r′ f g (u32 i s e v) h = h
-only-more c c′ r r′ f g (ip4 i s e a) h = h
-only-more c c′ r r′ f g (ip6 i s e x l) h = h
-only-more c c′ r r′ f g (bytes i s e) h = g i h
+only-more c c′ r r′ f g x = go (content x .shape)
+  where
+    go : (t : Shape) → passes c r t (content x .id) ≡ true → passes c′ r′ t (content x .id) ≡ true
+    go opening h = f (content x .id) h
+    go closing h = h
+    go valued h = h
+    go ranged h = g (content x .id) h
 
 module _ {has : Entry → Bool} where
   pub laid-append : {lo hi : ℕ} {xs ys : List Entry} → Laid has lo hi xs → Laid has lo hi ys → Laid has lo hi (xs ++ ys)

@@ -1,5 +1,6 @@
 -- The theorems about the definitions.
 pub mod Bytes
+pub mod SameBytes
 pub mod Strip
 pub mod Wrote
 pub mod Read

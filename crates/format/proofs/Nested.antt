@@ -8,12 +8,13 @@ use mathlib.Core.List.{List, [], _∷_, _++_, flatMap, append-nil, append-assoc}
 use lib.ListN.{length}
 use lib.Dec.{eqb, ltb}
 use borrow.Author.Tests.{eqb-true}
-use Rattle.format.specs.Strip.{Entry, container}
-use Rattle.format.specs.Strip.Entry.{opens, closes, u8, u16, u32, ip4, ip6, bytes}
+use Rattle.format.specs.Strip.{Entry, Shape, content, container}
+use Rattle.format.specs.Strip.Entry.{opens, closes, bytes}
+use Rattle.format.specs.Strip.Shape.{opening, closing, valued, ranged}
 use Rattle.format.specs.Cut.{Span}
 use Rattle.format.specs.Body.{leftover}
-use Rattle.format.specs.Ranges.{Range, range, opening, ranges}
-use Rattle.format.specs.Laid.{isField}
+use Rattle.format.specs.Ranges.{Range, range, begun, opened, ranges}
+use Rattle.format.specs.Laid.{fieldShape, isField}
 
 -- Entries that are well nested: each opening has its close, and every container's id passes the test.
 pub data Nested (ok : ℕ → Bool) : List Entry → Type 0 where
@@ -43,15 +44,14 @@ ranges-append i [] ys = refl
 ranges-append i (x ∷ xs) ys = rw (ranges-append i xs ys, append-assoc)
 
 -- A field opens nothing.
-opens-nothing : (i : ℕ) (x : Entry) → isField x ≡ true → opening i x ≡ []
-opens-nothing i (opens j s e) h = let z : _≡_ {A = ℕ} 0 1 = cc in absurd (omega arith)
-opens-nothing i closes h = refl
-opens-nothing i (u8 j s e v) h = refl
-opens-nothing i (u16 j s e v) h = refl
-opens-nothing i (u32 j s e v) h = refl
-opens-nothing i (ip4 j s e a) h = refl
-opens-nothing i (ip6 j s e x l) h = refl
-opens-nothing i (bytes j s e) h = refl
+opens-nothing : (i : ℕ) (x : Entry) → isField x ≡ true → opened i x ≡ []
+opens-nothing i x = go (content x .shape)
+  where
+    go : (f : Shape) → fieldShape f ≡ true → begun f (eqb i (content x .id)) (range (content x .start) (content x .end)) ≡ []
+    go opening h = let z : _≡_ {A = ℕ} 0 1 = cc in absurd (omega arith)
+    go closing h = refl
+    go valued h = refl
+    go ranged h = refl
 
 -- An id that fails the test is not there.
 pub absent : {ok : ℕ → Bool} {es : List Entry} (i : ℕ) → ok i ≡ false → Nested ok es → ranges i es ≡ []

@@ -10,13 +10,12 @@ use lib.Dec.{ltb, eqb}
 use borrow.Author.Tests.{ltb-true, ltb-false, ne-eqb}
 use Rattle.format.specs.Bytes.{part}
 use Rattle.format.specs.Strip.{Entry, encode, stepAt}
-use Rattle.format.specs.Strip.Entry.{opens, closes, u8, u16, u32, ip4, ip6, bytes}
 use Rattle.format.specs.Strip.Step.{entry}
 use Rattle.format.specs.Walks.{Outcome, answerOf, stripOf}
 use Rattle.format.specs.Walks.Outcome.{accepted, refused as refusing}
 use Rattle.format.specs.Part.{Reads}
 use Rattle.format.specs.Part.Reads.{ends as reads-end, steps}
-use Rattle.format.specs.Print.{programOf, spaced, line, lineRoom, firstLine, shownOf, printed}
+use Rattle.format.specs.Print.{programOf, spaced, newline, text, line, lineRoom, firstLine, shownOf, printed}
 use Rattle.format.specs.Pieces.{Lines, lines, linesFrom, linesAt, shownPart, Pieces, Row, Left}
 use Rattle.format.specs.Pieces.Pieces.{ends, goes}
 use Rattle.format.specs.Pieces.Row.{row}
@@ -66,14 +65,11 @@ split (suc k) room s p es r h = go (ltb room lineRoom) refl es r (split k)
 -- No line is empty.
 no-empty-line : (x : Entry) (t : List ℕ) → line x ++ t ≡ [] → ⊥
 unfolding line
-no-empty-line (opens i s e) t h = let z : _≡_ {A = ℕ} 0 1 = cc in omega arith
-no-empty-line closes t h = let z : _≡_ {A = ℕ} 0 1 = cc in omega arith
-no-empty-line (u8 i s e v) t h = let z : _≡_ {A = ℕ} 0 1 = cc in omega arith
-no-empty-line (u16 i s e v) t h = let z : _≡_ {A = ℕ} 0 1 = cc in omega arith
-no-empty-line (u32 i s e v) t h = let z : _≡_ {A = ℕ} 0 1 = cc in omega arith
-no-empty-line (ip4 i s e a) t h = let z : _≡_ {A = ℕ} 0 1 = cc in omega arith
-no-empty-line (ip6 i s e a b) t h = let z : _≡_ {A = ℕ} 0 1 = cc in omega arith
-no-empty-line (bytes i s e) t h = let z : _≡_ {A = ℕ} 0 1 = cc in omega arith
+no-empty-line x t h =
+    let e : length ((text x ++ newline) ++ t) ≡ 0 = ap length h in
+    let a = length-append (text x ++ newline) t in
+    let b = length-append (text x) newline in
+    omega arith
 
 no-lines : (es : List Entry) → flatMap line es ≡ [] → es ≡ []
 unfolding flatMap

@@ -4,16 +4,18 @@ use native.Mathlib.Omega.{arith}
 use mathlib.Core.Path.{_≡_, refl}
 use mathlib.Core.Logic.{_⊎_, inl, inr}
 use mathlib.Core.Bool.{Bool, true, false, cond}
-use mathlib.Core.List.{List, [], _∷_, _++_, append-assoc}
+use mathlib.Core.List.{List, _++_, append-assoc}
 use mathlib.Core.Option.{Option, none, some}
 use lib.ListN.{length, take, replicate, length-append, length-replicate, replicate-append-replicate}
 use lib.Seq.{length-take-le, take-append-le, take-at}
 use lib.Dec.{leb, ltb, eqb}
 use borrow.Author.Tests.{leb-true, ltb-true, ltb-false, lt-ltb, le-ltb, eqb-true, eqb-false, eq-eqb}
-use Rattle.format.specs.Prefix.{octets, address, sameBytes, Comparison, comparison}
+use Rattle.format.specs.Bytes.{sameBytes}
+use Rattle.format.specs.Prefix.{octets, address, Comparison, comparison}
 use Rattle.format.specs.Prefix.Comparison.{same, different, refused}
 use Rattle.format.specs.Refusals.{Compares}
 use Rattle.format.specs.V3.{prefixFits}
+use Rattle.format.proofs.SameBytes.{same-bytes, same-bytes-self}
 
 -- A prefix has at most 16 octets, in whole words of 32 bits.
 pub octets-bound : (l n : ℕ) → octets l ≡ some n → (l ≤ 128) × (n ≤ 16)
@@ -57,22 +59,6 @@ address-is bs h =
 pub address-cut : (bs : List ℕ) → 16 ≤ length bs → address bs ≡ take 16 bs
 unfolding address
 address-cut bs h = take-append-le 16 bs (replicate 16 0) h
-
-pub same-bytes : (xs ys : List ℕ) → sameBytes xs ys ≡ true → xs ≡ ys
-unfolding sameBytes
-same-bytes [] [] h = refl
-same-bytes [] (y ∷ ys) h = let z : _≡_ {A = ℕ} 0 1 = cc in absurd (omega arith)
-same-bytes (x ∷ xs) [] h = let z : _≡_ {A = ℕ} 0 1 = cc in absurd (omega arith)
-same-bytes (x ∷ xs) (y ∷ ys) h = go (eqb x y) refl h (same-bytes xs ys)
-  where
-    go : (s : Bool) → eqb x y ≡ s → cond s (sameBytes xs ys) false ≡ true → (sameBytes xs ys ≡ true → xs ≡ ys) → x ∷ xs ≡ y ∷ ys
-    go true e h ih = let p = eqb-true x y e in let q = ih h in cc
-    go false e h ih = let z : _≡_ {A = ℕ} 0 1 = cc in absurd (omega arith)
-
-pub same-bytes-self : (xs : List ℕ) → sameBytes xs xs ≡ true
-unfolding sameBytes
-same-bytes-self [] = refl
-same-bytes-self (x ∷ xs) = rw (eq-eqb x x refl) (same-bytes-self xs)
 
 -- What each answer of the comparison says.
 module _ (l : ℕ) (a : List ℕ) (m : ℕ) (b : List ℕ) where

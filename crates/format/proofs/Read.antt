@@ -65,17 +65,7 @@ read-from (e ∷ es) pre (suc k) h =
 pub longer : (es : List Entry) → length es ≤ length (encode es)
 unfolding encode code
 longer [] = zero-le
-longer (e ∷ es) = let h = longer es in let k = one e in rw length-append (omega arith)
-  where
-    one : (x : Entry) → 1 ≤ length (code x)
-    one (opens i s t) = omega arith
-    one closes = omega arith
-    one (u8 i s t v) = omega arith
-    one (u16 i s t v) = omega arith
-    one (u32 i s t v) = omega arith
-    one (ip4 i s t a) = omega arith
-    one (ip6 i s t h l) = omega arith
-    one (bytes i s t) = omega arith
+longer (e ∷ es) = let h = longer es in rw length-append (omega arith)
 
 pub read-encode : (es : List Entry) → readAll (encode es) ≡ some es
 unfolding readAll

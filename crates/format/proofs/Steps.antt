@@ -4,38 +4,36 @@ use native.Mathlib.Omega.{arith}
 use mathlib.Core.Path.{_≡_, refl, _∙_}
 use mathlib.Core.Logic.{_⊎_, inl, inr, ⊎-elim}
 use mathlib.Core.Bool.{Bool, true, false}
-use mathlib.Core.List.{List}
+use mathlib.Core.List.{List, [], _∷_}
 use mathlib.Core.Option.{none, some}
 use lib.ListN.{length, getD}
-use lib.Dec.{ltb, leb, eqb}
+use lib.Dec.{ltb, leb}
 use borrow.Author.Tests.{ltb-true, ltb-false, leb-true, leb-false, lt-ltb, le-ltb, le-leb, lt-leb, eq-eqb, ne-eqb}
-use Rattle.format.specs.Strip.{Step, bodyLength, entryAt, stepAt}
+use Rattle.format.specs.Strip.{Step, lengthIn, bodyLength, entryAt, stepAt}
 use Rattle.format.specs.Strip.Step.{entry, end, refused}
-use Rattle.format.specs.Refusals.{bodyBytes, Kind, entryEnd, Steps}
+use Rattle.format.specs.Refusals.{lastKind, bodyBytes, Kind, entryEnd, Steps}
 
--- The kinds are 1 to 8 and no other, and their bodies' lengths are those of the table.
+-- Bodies of these lengths, for the kinds from j on.
+abbrev rows : ℕ → List ℕ → List (ℕ × ℕ)
+rows j [] = []
+rows j (l ∷ ls) = (j, l) ∷ rows (suc j) ls
+
+-- A kind among them has its length, and another has none.
+found : (ls : List ℕ) (j n k : ℕ) → n < length ls → k ≡ j + n → lengthIn (rows j ls) k ≡ some (getD ls n 0)
+found [] j n k h e = absurd (omega arith)
+found (l ∷ ls) j zero k h e = rw (eq-eqb k j (omega arith))
+found (l ∷ ls) j (suc n) k h e = rw (ne-eqb k j (λ z. omega arith)) (found ls (suc j) n k (omega arith) (omega arith))
+
+lost : (ls : List ℕ) (j k : ℕ) → (j ≤ k → k < j + length ls → ⊥) → lengthIn (rows j ls) k ≡ none
+lost [] j k h = refl
+lost (l ∷ ls) j k h = rw (ne-eqb k j (λ z. h (omega arith) (omega arith))) (lost ls (suc j) k (λ a b. h (omega arith) (omega arith)))
+
+-- `bodies` is `rows 1 bodyBytes`: the kinds are 1 to the last one and no other, and their bodies have these lengths.
 pub kind-length : (k : ℕ) → Kind k → bodyLength k ≡ some (getD bodyBytes (k - 1) 0)
-kind-length zero h = absurd (omega arith)
-kind-length (suc zero) h = refl
-kind-length (suc (suc zero)) h = refl
-kind-length (suc (suc (suc zero))) h = refl
-kind-length (suc (suc (suc (suc zero)))) h = refl
-kind-length (suc (suc (suc (suc (suc zero))))) h = refl
-kind-length (suc (suc (suc (suc (suc (suc zero)))))) h = refl
-kind-length (suc (suc (suc (suc (suc (suc (suc zero))))))) h = refl
-kind-length (suc (suc (suc (suc (suc (suc (suc (suc zero)))))))) h = refl
-kind-length (suc (suc (suc (suc (suc (suc (suc (suc (suc k))))))))) h = absurd (omega arith)
+kind-length k h = found bodyBytes 1 (k - 1) k (omega (arith, h .0, h .1)) (omega (arith, h .0))
 
 pub no-kind : (k : ℕ) → (Kind k → ⊥) → bodyLength k ≡ none
-no-kind zero h = refl
-no-kind (suc k) h = go (leb (suc k) 8) refl
-  where
-    go : (t : Bool) → leb (suc k) 8 ≡ t → bodyLength (suc k) ≡ none
-    go true e = absurd (h (omega arith, leb-true (suc k) 8 e))
-    go false e =
-        let l = leb-false (suc k) 8 e in
-        let other : (n : ℕ) → n ≤ 8 → eqb (suc k) n ≡ false = λ n m. ne-eqb (suc k) n (λ z. omega arith) in
-        rw (other 1 (omega arith), other 2 (omega arith), other 3 (omega arith), other 4 (omega arith), other 5 (omega arith), other 6 (omega arith), other 7 (omega arith), other 8 (omega arith))
+no-kind k h = lost bodyBytes 1 k (λ a b. h (a, omega arith))
 
 -- What each answer says of the strip and the place.
 abbrev Says : List ℕ → ℕ → Step → Type 0
@@ -68,9 +66,9 @@ module _ (s : List ℕ) (p : ℕ) where
 
   -- One of these holds.
   says : Says s p (stepAt s p)
-  says = go (ltb (length s) p) refl (ltb p (length s)) refl (leb 1 (getD s p 0)) refl (leb (getD s p 0) 8) refl (leb (entryEnd s p) (length s)) refl
+  says = go (ltb (length s) p) refl (ltb p (length s)) refl (leb 1 (getD s p 0)) refl (leb (getD s p 0) lastKind) refl (leb (entryEnd s p) (length s)) refl
     where
-      go : (a : Bool) → ltb (length s) p ≡ a → (b : Bool) → ltb p (length s) ≡ b → (c : Bool) → leb 1 (getD s p 0) ≡ c → (d : Bool) → leb (getD s p 0) 8 ≡ d
+      go : (a : Bool) → ltb (length s) p ≡ a → (b : Bool) → ltb p (length s) ≡ b → (c : Bool) → leb 1 (getD s p 0) ≡ c → (d : Bool) → leb (getD s p 0) lastKind ≡ d
           → (e : Bool) → leb (entryEnd s p) (length s) ≡ e → Says s p (stepAt s p)
       go true h b i c j d k e l = let z = ltb-true (length s) p h in rw (beyond z) (inl (refl, z))
       go false h false i c j d k e l = let z : p ≡ length s = omega (arith, ltb-false (length s) p h, ltb-false p (length s) i) in rw (ended z) z
@@ -80,16 +78,16 @@ module _ (s : List ℕ) (p : ℕ) where
           rw (unknown z n) (inr (inl (refl, z, n)))
       go false h true i true j false k e l =
           let z = ltb-true p (length s) i in
-          let n : Kind (getD s p 0) → ⊥ = λ y. let x = leb-false (getD s p 0) 8 k in let w = y .1 in omega arith in
+          let n : Kind (getD s p 0) → ⊥ = λ y. let x = leb-false (getD s p 0) lastKind k in let w = y .1 in omega arith in
           rw (unknown z n) (inr (inl (refl, z, n)))
       go false h true i true j true k false l =
           let z = ltb-true p (length s) i in
-          let n : Kind (getD s p 0) = (leb-true 1 (getD s p 0) j, leb-true (getD s p 0) 8 k) in
+          let n : Kind (getD s p 0) = (leb-true 1 (getD s p 0) j, leb-true (getD s p 0) lastKind k) in
           let m = leb-false (entryEnd s p) (length s) l in
           rw (cut-off z n m) (inr (inr (refl, z, n, m)))
       go false h true i true j true k true l =
           let z = ltb-true p (length s) i in
-          let n : Kind (getD s p 0) = (leb-true 1 (getD s p 0) j, leb-true (getD s p 0) 8 k) in
+          let n : Kind (getD s p 0) = (leb-true 1 (getD s p 0) j, leb-true (getD s p 0) lastKind k) in
           let m = leb-true (entryEnd s p) (length s) l in
           rw (whole z n m) (z, n, m, refl, refl)
 

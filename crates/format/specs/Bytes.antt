@@ -1,7 +1,9 @@
 -- Numbers and bytes. Every number of OSPF, and of the strip, has its most significant byte first (RFC 2328 A.1).
 use Prim.Native.Nat.{ℕ, _+_, _*_, _/_, _%_}
+use mathlib.Core.Bool.{Bool, true, false, cond}
 use mathlib.Core.List.{List, [], _∷_, _++_}
 use lib.ListN.{getD, take, drop}
+use lib.Dec.{eqb}
 
 -- The number of 16, 24, 32 or 64 bits whose bytes stand in b from p on.
 abbrev pub be16At : List ℕ → ℕ → ℕ
@@ -29,3 +31,10 @@ be64 n = be32 (n / 4294967296) ++ be32 (n % 4294967296)
 -- The n bytes of b from p on.
 abbrev pub part : List ℕ → ℕ → ℕ → List ℕ
 part b p n = take n (drop p b)
+
+-- Whether two lists of bytes are the same.
+unfoldable pub sameBytes : List ℕ → List ℕ → Bool
+sameBytes [] [] = true
+sameBytes [] (y ∷ ys) = false
+sameBytes (x ∷ xs) [] = false
+sameBytes (x ∷ xs) (y ∷ ys) = cond (eqb x y) (sameBytes xs ys) false

@@ -5,40 +5,26 @@ use mathlib.Core.Path.{_≡_}
 use mathlib.Core.Bool.{Bool, true, false, cond}
 use mathlib.Core.List.{List, [], _∷_, _++_}
 use lib.Dec.{eqb}
-use Rattle.format.specs.Strip.{Entry}
-use Rattle.format.specs.Strip.Entry.{opens, closes, u8, u16, u32, ip4, ip6, bytes}
+use Rattle.format.specs.Strip.{Entry, Shape, content}
+use Rattle.format.specs.Strip.Entry.{opens, closes, bytes}
+use Rattle.format.specs.Strip.Shape.{opening, closing, valued, ranged}
 
 -- Whether an entry neither opens nor closes a container.
+abbrev pub fieldShape : Shape → Bool
+fieldShape opening = false
+fieldShape closing = false
+fieldShape valued = true
+fieldShape ranged = true
+
 abbrev pub isField : Entry → Bool
-isField (opens i s e) = false
-isField closes = false
-isField (u8 i s e v) = true
-isField (u16 i s e v) = true
-isField (u32 i s e v) = true
-isField (ip4 i s e a) = true
-isField (ip6 i s e h l) = true
-isField (bytes i s e) = true
+isField x = fieldShape (content x .shape)
 
 -- The start and the end of an entry. A close has none.
 abbrev pub start : Entry → ℕ
-start (opens i s e) = s
-start closes = 0
-start (u8 i s e v) = s
-start (u16 i s e v) = s
-start (u32 i s e v) = s
-start (ip4 i s e a) = s
-start (ip6 i s e h l) = s
-start (bytes i s e) = s
+start x = content x .start
 
 abbrev pub end : Entry → ℕ
-end (opens i s e) = e
-end closes = 0
-end (u8 i s e v) = e
-end (u16 i s e v) = e
-end (u32 i s e v) = e
-end (ip4 i s e a) = e
-end (ip6 i s e h l) = e
-end (bytes i s e) = e
+end x = content x .end
 
 -- Every field and every opening passes the test, and lies from lo to hi; each opening has its close, and what stands
 -- between the two lies in that container's range.
@@ -54,15 +40,14 @@ among [] i = false
 among (x ∷ xs) i = cond (eqb i x) true (among xs i)
 
 -- Tests of entries: containers with these ids, kind 8 entries with those, and every field that has a value.
+abbrev pub passes : (containers ranges : List ℕ) → Shape → ℕ → Bool
+passes c r opening i = among c i
+passes c r closing i = true
+passes c r valued i = true
+passes c r ranged i = among r i
+
 abbrev pub only : (containers ranges : List ℕ) → Entry → Bool
-only c r (opens i s e) = among c i
-only c r closes = true
-only c r (u8 i s e v) = true
-only c r (u16 i s e v) = true
-only c r (u32 i s e v) = true
-only c r (ip4 i s e a) = true
-only c r (ip6 i s e h l) = true
-only c r (bytes i s e) = among r i
+only c r x = passes c r (content x .shape) (content x .id)
 
 -- A test that every entry passes.
 abbrev pub anything : Entry → Bool

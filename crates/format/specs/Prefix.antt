@@ -1,11 +1,11 @@
 -- Address prefixes of version 3 (RFC 5340 A.4.1): "an even multiple of 32-bit words, padding with zero bits".
 use Prim.Native.Nat.{ℕ, _+_, _*_, _/_}
-use mathlib.Core.Bool.{Bool, true, false, cond}
-use mathlib.Core.List.{List, [], _∷_, _++_}
+use mathlib.Core.Bool.{cond}
+use mathlib.Core.List.{List, _++_}
 use mathlib.Core.Option.{Option, none, some}
 use lib.ListN.{take, replicate}
 use lib.Dec.{leb, ltb, eqb}
-use Rattle.format.specs.Bytes.{part, be64At}
+use Rattle.format.specs.Bytes.{part, be64At, sameBytes}
 use Rattle.format.specs.Strip.{Entry}
 use Rattle.format.specs.Strip.Entry.{ip6}
 
@@ -24,13 +24,6 @@ address bs = take 16 (bs ++ replicate 16 0)
 -- The n octets of b from p on, as a field whose value is the whole address.
 abbrev pub ip6At : ℕ → List ℕ → ℕ → ℕ → ℕ → Entry
 ip6At i b o p n = ip6 i (o + p) (o + p + n) (be64At (address (part b p n)) 0) (be64At (address (part b p n)) 8)
-
--- Whether two lists of bytes are the same.
-unfoldable pub sameBytes : List ℕ → List ℕ → Bool
-sameBytes [] [] = true
-sameBytes [] (y ∷ ys) = false
-sameBytes (x ∷ xs) [] = false
-sameBytes (x ∷ xs) (y ∷ ys) = cond (eqb x y) (sameBytes xs ys) false
 
 -- The prefix comparison's answer.
 pub data Comparison : Type 0 where

@@ -96,16 +96,20 @@ bytesWord = 98 ∷ 121 ∷ 116 ∷ 101 ∷ 115 ∷ []
 abbrev pub field : List ℕ → ℕ → ℕ → ℕ → List ℕ
 field word i s e = word ++ place i s e
 
--- The line of an entry: its field, and a value where it has one.
+-- An entry in words: its field, and a value where it has one.
+abbrev pub text : Entry → List ℕ
+text (opens i s e) = field openWord i s e
+text closes = closeWord
+text (u8 i s e v) = field u8Word i s e ++ spaced v
+text (u16 i s e v) = field u16Word i s e ++ spaced v
+text (u32 i s e v) = field u32Word i s e ++ spaced v
+text (ip4 i s e a) = field ip4Word i s e ++ (32 ∷ dotted a)
+text (ip6 i s e h l) = field ip6Word i s e ++ (32 ∷ (hex 16 h ++ hex 16 l))
+text (bytes i s e) = field bytesWord i s e
+
+-- The line of an entry.
 unfoldable pub line : Entry → List ℕ
-line (opens i s e) = field openWord i s e ++ newline
-line closes = closeWord ++ newline
-line (u8 i s e v) = (field u8Word i s e ++ spaced v) ++ newline
-line (u16 i s e v) = (field u16Word i s e ++ spaced v) ++ newline
-line (u32 i s e v) = (field u32Word i s e ++ spaced v) ++ newline
-line (ip4 i s e a) = (field ip4Word i s e ++ (32 ∷ dotted a)) ++ newline
-line (ip6 i s e h l) = (field ip6Word i s e ++ (32 ∷ (hex 16 h ++ hex 16 l))) ++ newline
-line (bytes i s e) = field bytesWord i s e ++ newline
+line x = text x ++ newline
 
 -- No line is longer.
 abbrev pub lineRoom : ℕ

@@ -1,10 +1,10 @@
 -- Where the containers of a strip lie.
 use Prim.Native.Nat.{ℕ, _+_}
-use mathlib.Core.Bool.{cond}
+use mathlib.Core.Bool.{Bool, cond}
 use mathlib.Core.List.{List, [], _∷_, _++_, map}
 use lib.Dec.{eqb}
-use Rattle.format.specs.Strip.{Entry}
-use Rattle.format.specs.Strip.Entry.{opens, closes, u8, u16, u32, ip4, ip6, bytes}
+use Rattle.format.specs.Strip.{Entry, Shape, content}
+use Rattle.format.specs.Strip.Shape.{opening, closing, valued, ranged}
 use Rattle.format.specs.Cut.{Span}
 
 -- Where a container begins and ends.
@@ -15,20 +15,21 @@ pub record Range : Type 0 where
 abbrev pub range : ℕ → ℕ → Range
 range s e = record { start = s; end = e }
 
-abbrev pub opening : ℕ → Entry → List Range
-opening i (opens j s e) = cond (eqb i j) (range s e ∷ []) []
-opening i closes = []
-opening i (u8 j s e v) = []
-opening i (u16 j s e v) = []
-opening i (u32 j s e v) = []
-opening i (ip4 j s e a) = []
-opening i (ip6 j s e h l) = []
-opening i (bytes j s e) = []
+-- The range of a container that begins, if it is the one asked for.
+abbrev pub begun : Shape → Bool → Range → List Range
+begun opening t r = cond t (r ∷ []) []
+begun closing t r = []
+begun valued t r = []
+begun ranged t r = []
+
+-- The range of an entry that opens a container with this id.
+abbrev pub opened : ℕ → Entry → List Range
+opened i x = begun (content x .shape) (eqb i (content x .id)) (range (content x .start) (content x .end))
 
 -- The ranges of the containers with this id, in their order.
 unfoldable pub ranges : ℕ → List Entry → List Range
 ranges i [] = []
-ranges i (x ∷ xs) = opening i x ++ ranges i xs
+ranges i (x ∷ xs) = opened i x ++ ranges i xs
 
 -- The ranges of spans of a body whose first byte is at the place o.
 abbrev pub placed : ℕ → List Span → List Range

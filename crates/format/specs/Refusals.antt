@@ -49,19 +49,22 @@ pub record Refusals (v : ℕ) (d : List ℕ) (o least room needed : ℕ) (a : An
   pub no-length : (a .number ≡ 0 → ⊥) → (a .number ≡ 5 → ⊥) → a .size ≡ 0
   pub no-records : (a .number ≡ 0 → ⊥) → (a .records ≡ 0) × (a .tail ≡ 0)
 
--- The body bytes of the kinds 1 to 8.
+-- The kinds are 1 to this one, and their bodies have these bytes.
+abbrev pub lastKind : ℕ
+lastKind = 8
+
 abbrev pub bodyBytes : List ℕ
 bodyBytes = 9 ∷ 0 ∷ 10 ∷ 11 ∷ 13 ∷ 13 ∷ 25 ∷ 9 ∷ []
 
 abbrev pub Kind : ℕ → Type 0
-Kind k = (1 ≤ k) × (k ≤ 8)
+Kind k = (1 ≤ k) × (k ≤ lastKind)
 
 -- Where the entry at p ends, by the kind that stands there.
 abbrev pub entryEnd : List ℕ → ℕ → ℕ
 entryEnd s p = p + 1 + getD bodyBytes (getD s p 0 - 1) 0
 
--- The strip reader. 6: a place beyond the strip's length; only a place equal to it is the end; 7: the kind byte is not 1
--- to 8; 8: the entry's body is cut by the strip's end.
+-- The strip reader. 6: a place beyond the strip's length; only a place equal to it is the end; 7: the kind byte is no
+-- kind; 8: the entry's body is cut by the strip's end.
 pub record Steps (s : List ℕ) (p : ℕ) : Type 0 where
   pub six : (stepAt s p ≡ refused 6) ↔ (length s < p)
   pub ends : (stepAt s p ≡ end) ↔ (p ≡ length s)

@@ -47,16 +47,40 @@ bytesKind = 8
 abbrev pub head : ℕ → ℕ → ℕ → List ℕ
 head i s e = i ∷ (be32 s ++ be32 e)
 
+-- What an entry is, whatever its kind: the start or the end of a container, a field with a value, or a range alone.
+pub data Shape : Type 0 where
+  opening : Shape
+  closing : Shape
+  valued : Shape
+  ranged : Shape
+
+-- What an entry says. The body is what follows the kind's byte.
+pub record Content : Type 0 where
+  pub kind : ℕ
+  pub shape : Shape
+  pub id : ℕ
+  pub start : ℕ
+  pub end : ℕ
+  pub body : List ℕ
+
+-- Every body but a close's begins with the id, the start and the end; the value follows.
+abbrev says : ℕ → Shape → ℕ → ℕ → ℕ → List ℕ → Content
+says k f i s e value = record { kind = k; shape = f; id = i; start = s; end = e; body = head i s e ++ value }
+
+-- A row for each kind. A close has no id, start and end: the zeros say nothing.
+abbrev pub content : Entry → Content
+content (opens i s e) = says openKind opening i s e []
+content closes = record { kind = closeKind; shape = closing; id = 0; start = 0; end = 0; body = [] }
+content (u8 i s e v) = says u8Kind valued i s e (v ∷ [])
+content (u16 i s e v) = says u16Kind valued i s e (be16 v)
+content (u32 i s e v) = says u32Kind valued i s e (be32 v)
+content (ip4 i s e a) = says ip4Kind valued i s e (be32 a)
+content (ip6 i s e h l) = says ip6Kind valued i s e (be64 h ++ be64 l)
+content (bytes i s e) = says bytesKind ranged i s e []
+
 -- An entry's bytes: its kind, then a body whose length the kind fixes.
 unfoldable pub code : Entry → List ℕ
-code (opens i s e) = openKind ∷ head i s e
-code closes = closeKind ∷ []
-code (u8 i s e v) = u8Kind ∷ (head i s e ++ (v ∷ []))
-code (u16 i s e v) = u16Kind ∷ (head i s e ++ be16 v)
-code (u32 i s e v) = u32Kind ∷ (head i s e ++ be32 v)
-code (ip4 i s e a) = ip4Kind ∷ (head i s e ++ be32 a)
-code (ip6 i s e h l) = ip6Kind ∷ (head i s e ++ (be64 h ++ be64 l))
-code (bytes i s e) = bytesKind ∷ head i s e
+code x = content x .kind ∷ content x .body
 
 -- The bytes of entries, one after another.
 unfoldable pub encode : List Entry → List ℕ
@@ -110,30 +134,42 @@ pub data Step : Type 0 where
   end : Step
   refused : (number : ℕ) → Step
 
+-- The kinds, and the lengths of their bodies.
+abbrev pub bodies : List (ℕ × ℕ)
+bodies =
+    (openKind, 9) ∷
+    (closeKind, 0) ∷
+    (u8Kind, 10) ∷
+    (u16Kind, 11) ∷
+    (u32Kind, 13) ∷
+    (ip4Kind, 13) ∷
+    (ip6Kind, 25) ∷
+    (bytesKind, 9) ∷
+    []
+
+abbrev pub lengthIn : List (ℕ × ℕ) → ℕ → Option ℕ
+lengthIn [] k = none
+lengthIn (b ∷ bs) k = cond (eqb k (b .0)) (some (b .1)) (lengthIn bs k)
+
 -- The length of a kind's body.
 abbrev pub bodyLength : ℕ → Option ℕ
-bodyLength k =
-    cond (eqb k openKind) (some 9)
-    (cond (eqb k closeKind) (some 0)
-    (cond (eqb k u8Kind) (some 10)
-    (cond (eqb k u16Kind) (some 11)
-    (cond (eqb k u32Kind) (some 13)
-    (cond (eqb k ip4Kind) (some 13)
-    (cond (eqb k ip6Kind) (some 25)
-    (cond (eqb k bytesKind) (some 9)
-    none)))))))
+bodyLength k = lengthIn bodies k
+
+-- The entry of a kind with this id, start and end. Its value, if the kind has one, stands in the body at q after them.
+abbrev pub entryOfKind : (kind id start end : ℕ) → List ℕ → ℕ → Entry
+entryOfKind k i b e s q =
+    cond (eqb k openKind) (opens i b e)
+    (cond (eqb k closeKind) closes
+    (cond (eqb k u8Kind) (u8 i b e (getD s (q + 9) 0))
+    (cond (eqb k u16Kind) (u16 i b e (be16At s (q + 9)))
+    (cond (eqb k u32Kind) (u32 i b e (be32At s (q + 9)))
+    (cond (eqb k ip4Kind) (ip4 i b e (be32At s (q + 9)))
+    (cond (eqb k ip6Kind) (ip6 i b e (be64At s (q + 9)) (be64At s (q + 17)))
+    (bytes i b e)))))))
 
 -- The entry of a kind whose body stands at q.
 abbrev pub entryAt : ℕ → List ℕ → ℕ → Entry
-entryAt k s q =
-    cond (eqb k openKind) (opens (getD s q 0) (be32At s (q + 1)) (be32At s (q + 5)))
-    (cond (eqb k closeKind) closes
-    (cond (eqb k u8Kind) (u8 (getD s q 0) (be32At s (q + 1)) (be32At s (q + 5)) (getD s (q + 9) 0))
-    (cond (eqb k u16Kind) (u16 (getD s q 0) (be32At s (q + 1)) (be32At s (q + 5)) (be16At s (q + 9)))
-    (cond (eqb k u32Kind) (u32 (getD s q 0) (be32At s (q + 1)) (be32At s (q + 5)) (be32At s (q + 9)))
-    (cond (eqb k ip4Kind) (ip4 (getD s q 0) (be32At s (q + 1)) (be32At s (q + 5)) (be32At s (q + 9)))
-    (cond (eqb k ip6Kind) (ip6 (getD s q 0) (be32At s (q + 1)) (be32At s (q + 5)) (be64At s (q + 9)) (be64At s (q + 17)))
-    (bytes (getD s q 0) (be32At s (q + 1)) (be32At s (q + 5)))))))))
+entryAt k s q = entryOfKind k (getD s q 0) (be32At s (q + 1)) (be32At s (q + 5)) s q
 
 -- The step of the strip reader. 6: the place is beyond the strip's length; 7: no kind; 8: the body is cut by the end.
 unfoldable pub stepAt : List ℕ → ℕ → Step

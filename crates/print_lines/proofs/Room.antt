@@ -1,5 +1,5 @@
 -- How long the lines are.
-use Prim.Native.Nat.{ℕ, _≤_}
+use Prim.Native.Nat.{ℕ, _+_, _≤_}
 use native.Mathlib.Omega.{arith}
 use mathlib.Core.Path.{_≡_, sym}
 use mathlib.Core.Bool.{Bool, true, false, cond}
@@ -64,6 +64,10 @@ first-fits a = pick (eqb (a .number) 0)
         let q = length-append (spaced (a .number)) (spaced (a .size) ++ newline) in
         let r = length-append (spaced (a .size)) newline in
         omega arith
+
+-- After a text of at most n bytes, which was written where there was room for it and for k more, there is room for k.
+pub room-left : {before after text : List ℕ} {p r : ℕ} → Wrote before p text after r → (n k : ℕ) → length text ≤ n → p + (n + k) ≤ length before → r + k ≤ length after
+room-left w n k t h = let g = kept w in omega (arith, w .place)
 
 -- A text that was written to the front can be lent by itself.
 pub lendable : {before after text : List ℕ} {r : ℕ} → Wrote before 0 text after r → length text ≤ lineRoom → lineRoom ≤ length before

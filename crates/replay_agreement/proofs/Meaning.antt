@@ -3,34 +3,18 @@ use Prim.Native.Nat.{ℕ}
 use mathlib.Core.Path.{_≡_, refl}
 use mathlib.Core.Logic.{_↔_}
 use mathlib.Core.Bool.{Bool, true, false, cond}
-use mathlib.Core.List.{List, [], _∷_}
+use mathlib.Core.List.{List}
 use native.Mathlib.Omega.{arith}
-use lib.Dec.{eqb}
 use borrow.Author.Tests.{eq-eqb, eqb-true}
 use Rattle.format.specs.Walks.{Answer, answer, answerOf, stripOf}
+use Rattle.format.proofs.SameBytes.{same-bytes, same-bytes-self}
 use Rattle.replay_call.specs.Stored.{roomAt, answerAt}
-use Rattle.replay_expected.specs.Expected.{sameBytes, sameAnswer, storedAnswer, storedBuffer, lent}
+use Rattle.replay_expected.specs.Expected.{sameAnswer, storedAnswer, storedBuffer, lent}
 use Rattle.replay_agreement.specs.Agree.{agreesAt, outcomeAt}
 
 both : (s t : Bool) → cond s t false ≡ true → (s ≡ true) × (t ≡ true)
 both true t e = (refl, e)
 both false t e = let z : _≡_ {A = ℕ} 0 1 = cc in absurd (omega arith)
-
-bytes-same : (a b : List ℕ) → sameBytes a b ≡ true → a ≡ b
-unfolding sameBytes
-bytes-same [] [] e = refl
-bytes-same [] (y ∷ ys) e = let z : _≡_ {A = ℕ} 0 1 = cc in absurd (omega arith)
-bytes-same (x ∷ xs) [] e = let z : _≡_ {A = ℕ} 0 1 = cc in absurd (omega arith)
-bytes-same (x ∷ xs) (y ∷ ys) e =
-    let d = both (eqb x y) (sameBytes xs ys) e in
-    let h = eqb-true x y (d .0) in
-    let t = bytes-same xs ys (d .1) in
-    cc
-
-same-bytes : (a : List ℕ) → sameBytes a a ≡ true
-unfolding sameBytes
-same-bytes [] = refl
-same-bytes (x ∷ xs) = rw (eq-eqb x x refl) (same-bytes xs)
 
 answer-same : (a b : Answer) → sameAnswer a b ≡ true → a ≡ b
 unfolding sameAnswer
@@ -55,6 +39,6 @@ pub agrees-means : (b : List ℕ) (p : ℕ)
     → (agreesAt b p ≡ true) ↔ ((answerOf (outcomeAt b p) (roomAt b p) ≡ storedAnswer b (answerAt b p)) × (stripOf (outcomeAt b p) (lent (roomAt b p)) ≡ storedBuffer b (answerAt b p) (roomAt b p)))
 unfolding agreesAt
 agrees-means b p = (
-  λ e. let d = both _ _ e in (answer-same _ _ (d .0), bytes-same _ _ (d .1)),
-  λ e. rw (e .0, e .1, same-answer (storedAnswer b (answerAt b p))) (same-bytes _),
+  λ e. let d = both _ _ e in (answer-same _ _ (d .0), same-bytes _ _ (d .1)),
+  λ e. rw (e .0, e .1, same-answer (storedAnswer b (answerAt b p))) (same-bytes-self _),
 )

@@ -5,12 +5,12 @@ use mathlib.Core.Path.{_≡_, sym, _∙_}
 use mathlib.Core.Bool.{Bool, true, false}
 use mathlib.Core.List.{List}
 use lib.ListN.{length, getD, take, drop}
-use Rattle.format.specs.Bytes.{be32At, be64At}
+use Rattle.format.specs.Bytes.{be32At, be64At, sameBytes}
 use Rattle.format.specs.Walks.{namedOf, answerOf, stripOf}
 use Rattle.walk_answer.specs.Answers.{answered, answerMeaning}
 use Rattle.walk_answer.specs.declared.Answer.{Answer}
 use Rattle.replay_call.specs.Stored.{walkAt, roomAt, sizeAt}
-use Rattle.replay_expected.specs.Expected.{lent, sameAnswer, sameBytes, storedAnswer, storedBuffer}
+use Rattle.replay_expected.specs.Expected.{lent, sameAnswer, storedAnswer, storedBuffer}
 use Rattle.replay_agreement.specs.Agree.{agreesAt, outcomeAt}
 use Rattle.replay_expected.proofs.Bytes.{lent-length}
 

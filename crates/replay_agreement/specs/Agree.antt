@@ -4,10 +4,10 @@ use Prim.Native.Nat.{ℕ, _+_}
 use mathlib.Core.Bool.{Bool, false, cond}
 use mathlib.Core.List.{List, _++_}
 use lib.ListN.{getD, drop}
-use Rattle.format.specs.Bytes.{be32At, be64At, part}
+use Rattle.format.specs.Bytes.{be32At, be64At, part, sameBytes}
 use Rattle.format.specs.Walks.{Outcome, namedOf, answerOf, stripOf}
 use Rattle.replay_call.specs.Stored.{walkAt, roomAt, sizeAt, answerAt}
-use Rattle.replay_expected.specs.Expected.{lent, sameAnswer, sameBytes, storedAnswer, storedBuffer}
+use Rattle.replay_expected.specs.Expected.{lent, sameAnswer, storedAnswer, storedBuffer}
 
 -- What the call at p comes to by the definitions.
 unfoldable pub outcomeAt : List ℕ → ℕ → Outcome

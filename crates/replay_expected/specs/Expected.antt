@@ -1,7 +1,7 @@
 -- What is stored of an answer, and when an answer and a buffer are the same as the stored ones.
 use Prim.Native.Nat.{ℕ, _+_, _-_}
-use mathlib.Core.Bool.{Bool, true, false, cond}
-use mathlib.Core.List.{List, [], _∷_, _++_}
+use mathlib.Core.Bool.{Bool, false, cond}
+use mathlib.Core.List.{List, _++_}
 use lib.ListN.{getD, replicate}
 use lib.Dec.{eqb}
 use Rattle.format.specs.Bytes.{be32At, part}
@@ -18,12 +18,6 @@ storedAnswer b q = answer (getD b q 0) (be32At b (q + 1)) (be32At b (q + 5)) (be
 
 abbrev pub storedBuffer : List ℕ → ℕ → ℕ → List ℕ
 storedBuffer b q room = part b (q + 13) (keptAt b q) ++ lent (room - keptAt b q)
-
-unfoldable pub sameBytes : List ℕ → List ℕ → Bool
-sameBytes [] [] = true
-sameBytes [] (y ∷ ys) = false
-sameBytes (x ∷ xs) [] = false
-sameBytes (x ∷ xs) (y ∷ ys) = cond (eqb x y) (sameBytes xs ys) false
 
 unfoldable pub sameAnswer : Answer → Answer → Bool
 sameAnswer a b =

@@ -3,9 +3,10 @@
 ghost use mathlib.Core.Path.{_≡_};
 ghost use Prim.Native.Nat.{_+_, _≤_};
 ghost use lib.ListN.{length};
+ghost use Rattle.format.specs.Bytes.{sameBytes};
 ghost use Rattle.walk_answer.specs.Answers.{answerMeaning};
 ghost use Rattle.replay_call.specs.Stored.{keptAt};
-ghost use Rattle.replay_expected.specs.Expected.{lent, sameAnswer, sameBytes, storedAnswer, storedBuffer};
+ghost use Rattle.replay_expected.specs.Expected.{lent, sameAnswer, storedAnswer, storedBuffer};
 use replay_call::ANSWER;
 use replay_call::kept_at;
 use util::read_be_u32;

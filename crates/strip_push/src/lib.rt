@@ -5,6 +5,14 @@ ghost use lib.ListN.{length};
 ghost use Rattle.format.specs.Strip.{Entry, code, u8At, bitAt, lowBitsAt, u16At, u24At, metric24At, wide16At, u32At, ip4At, bytesAt};
 ghost use Rattle.format.specs.Prefix.{ip6At};
 ghost use Rattle.format.specs.Wrote.{Wrote};
+use strip_kinds::BYTES;
+use strip_kinds::CLOSE;
+use strip_kinds::IPV4;
+use strip_kinds::IPV6;
+use strip_kinds::OPEN;
+use strip_kinds::U8;
+use strip_kinds::U16;
+use strip_kinds::U32;
 use strip_put::put_head;
 use strip_put::put_head_at;
 use strip_put::put_u8;
@@ -17,23 +25,6 @@ use util::read_be_u24;
 use util::read_be_u32;
 use util::read_be_u64;
 use util::read_ipv4_addr;
-
-// The kinds of entries.
-const OPEN: u8 = 1;
-
-const CLOSE: u8 = 2;
-
-const U8: u8 = 3;
-
-const U16: u8 = 4;
-
-const U32: u8 = 5;
-
-const IPV4: u8 = 6;
-
-const IPV6: u8 = 7;
-
-const BYTES: u8 = 8;
 
 pub fn begin_container(strip: &mut [u8], at: usize, id: u8, start: u32, end: u32) -> usize
     requires { ⌜ at + 10 ≤ length (now strip) ⌝ }

@@ -7,6 +7,14 @@ ghost use lib.ListN.{length};
 ghost use Rattle.format.specs.Strip.{bodyLength, entryAt, stepAt};
 ghost use Rattle.util.specs.Answers.{lengthOf};
 ghost use Rattle.strip_step.specs.Answers.{entryOf, stepOf, bodySize};
+use strip_kinds::BYTES;
+use strip_kinds::CLOSE;
+use strip_kinds::IPV4;
+use strip_kinds::IPV6;
+use strip_kinds::OPEN;
+use strip_kinds::U8;
+use strip_kinds::U16;
+use strip_kinds::U32;
 use util::Length;
 use util::read_be_u16;
 use util::read_be_u32;
@@ -77,14 +85,14 @@ fn body_length(kind: u8) -> Length
     ensures { λ r. ⌜ r ≡ lengthOf (bodyLength kind) ⌝ }
 {
     match kind {
-        1 => Length::Bytes(9),
-        2 => Length::Bytes(0),
-        3 => Length::Bytes(10),
-        4 => Length::Bytes(11),
-        5 => Length::Bytes(13),
-        6 => Length::Bytes(13),
-        7 => Length::Bytes(25),
-        8 => Length::Bytes(9),
+        OPEN => Length::Bytes(9),
+        CLOSE => Length::Bytes(0),
+        U8 => Length::Bytes(10),
+        U16 => Length::Bytes(11),
+        U32 => Length::Bytes(13),
+        IPV4 => Length::Bytes(13),
+        IPV6 => Length::Bytes(25),
+        BYTES => Length::Bytes(9),
         _ => Length::Nothing,
     }
 }
@@ -95,39 +103,39 @@ fn entry_at(kind: u8, strip: &[u8], q: usize) -> Entry
     requires { ⌜ (bodyLength kind ≡ none → ⊥) ⌝ }
     ensures { λ r. ⌜ r ≡ entryOf (entryAt kind (now (strip .entry)) q) ⌝ }
 {
-    if kind == 2 {
+    if kind == CLOSE {
         return Entry::Close;
     }
     let id = strip[q];
     let start = read_be_u32(strip, q + 1);
     let end = read_be_u32(strip, q + 5);
     match kind {
-        1 => Entry::Open { id, start, end },
-        3 => Entry::U8 {
+        OPEN => Entry::Open { id, start, end },
+        U8 => Entry::U8 {
             id,
             start,
             end,
             value: strip[q + 9],
         },
-        4 => Entry::U16 {
+        U16 => Entry::U16 {
             id,
             start,
             end,
             value: read_be_u16(strip, q + 9),
         },
-        5 => Entry::U32 {
+        U32 => Entry::U32 {
             id,
             start,
             end,
             value: read_be_u32(strip, q + 9),
         },
-        6 => Entry::Ipv4 {
+        IPV4 => Entry::Ipv4 {
             id,
             start,
             end,
             address: read_be_u32(strip, q + 9),
         },
-        7 => Entry::Ipv6 {
+        IPV6 => Entry::Ipv6 {
             id,
             start,
             end,

@@ -1,16 +1,13 @@
--- Laws of the two loops: the copy of a prefix's octets over 16 zeros, and the comparison of two addresses.
+-- Laws of the copy of a prefix's octets over 16 zeros.
 use Prim.Native.Nat.{ℕ, _+_, _-_, _≤_, _<_}
 use native.Mathlib.Omega.{arith}
 use native.Mathlib.Nat.{zero-add, add-comm}
 use native.Mathlib.Numerals.{add-one}
-use mathlib.Core.Path.{_≡_, _∙_}
-use mathlib.Core.Bool.{true, false, cond}
+use mathlib.Core.Path.{_≡_}
 use mathlib.Core.List.{List, _++_, append-nil}
-use lib.ListN.{length, getD, set, take, drop, replicate, length-replicate, replicate-append-replicate, drop-of-length-le}
-use lib.Seq.{paste-suc, take-length, take-at, drop-at, take-append-le, take-append-add, drop-cons}
-use lib.Dec.{eqb}
-use borrow.Author.Tests.{eq-eqb, ne-eqb}
-use Rattle.format.specs.Prefix.{address, sameBytes}
+use lib.ListN.{length, getD, set, take, drop, replicate, length-replicate, replicate-append-replicate}
+use lib.Seq.{paste-suc, take-length, take-at, drop-at, take-append-le, take-append-add}
+use Rattle.format.specs.Prefix.{address}
 
 abbrev pub zeros : ℕ → List ℕ
 zeros n = replicate n 0
@@ -45,19 +42,3 @@ copied-short bs h =
 pub copied-long : (bs : List ℕ) → 16 ≤ length bs → copied bs 16 ≡ address bs
 unfolding address
 copied-long bs h = rw (append-nil, take-append-le 16 bs (zeros 16) h)
-
--- Two lists of n bytes, compared from the place i on.
-module _ (xs ys : List ℕ) (n i : ℕ) (hx : length xs ≡ n) (hy : length ys ≡ n) where
-  from : i < n → sameBytes (drop i xs) (drop i ys) ≡ cond (eqb (getD xs i 0) (getD ys i 0)) (sameBytes (drop (i + 1) xs) (drop (i + 1) ys)) false
-  unfolding sameBytes
-  from h = rw (add-one, drop-cons xs i 0 (omega arith), drop-cons ys i 0 (omega arith))
-
-  pub differ : i < n → (getD xs i 0 ≡ getD ys i 0 → ⊥) → sameBytes (drop i xs) (drop i ys) ≡ false
-  differ h e = from h ∙ rw (ne-eqb _ _ e)
-
-  pub agree : i < n → getD xs i 0 ≡ getD ys i 0 → sameBytes (drop i xs) (drop i ys) ≡ sameBytes (drop (i + 1) xs) (drop (i + 1) ys)
-  agree h e = from h ∙ rw (eq-eqb _ _ e)
-
-  pub agreed : n ≤ i → sameBytes (drop i xs) (drop i ys) ≡ true
-  unfolding sameBytes
-  agreed h = rw (drop-of-length-le xs {i = i} (omega arith), drop-of-length-le ys {i = i} (omega arith))

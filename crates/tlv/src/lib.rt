@@ -1,6 +1,7 @@
 // tlv.rs: address prefixes of version 3 (RFC 5340 A.4.1), and their comparison.
 ghost use mathlib.Core.Path.{_≡_};
-ghost use Rattle.format.specs.Prefix.{octets, address, sameBytes, comparison};
+ghost use Rattle.format.specs.Bytes.{sameBytes};
+ghost use Rattle.format.specs.Prefix.{octets, address, comparison};
 ghost use Rattle.util.specs.Answers.{lengthOf};
 ghost use Rattle.tlv.specs.Answers.{comparisonOf};
 use util::Length;

@@ -8,6 +8,18 @@
 //! assert_eq!(listing::strip("u16 6 16 18 4660"), listing::hex("04 06 00000010 00000012 1234"));
 //! ```
 
+/// The kinds from 1 on: the word of each, and how many bytes its body has.
+pub const KINDS: [(&str, usize); 8] = [
+    ("open", 9),
+    ("close", 0),
+    ("u8", 10),
+    ("u16", 11),
+    ("u32", 13),
+    ("ip4", 13),
+    ("ip6", 25),
+    ("bytes", 9),
+];
+
 /// The bytes of a strip, one entry a line. Panics on a line it cannot read.
 pub fn strip(listing: &str) -> Vec<u8> {
     let lines = listing.lines().map(str::trim);
@@ -31,27 +43,23 @@ pub fn bytes(n: usize, byte: u8) -> Vec<u8> {
 
 fn entry(line: &str) -> Vec<u8> {
     let words: Vec<&str> = line.split_whitespace().collect();
-    let (kind, value) = match words[0] {
-        "open" => (1, 0),
-        "close" => return vec![2],
-        "u8" => (3, 1),
-        "u16" => (4, 2),
-        "u32" => (5, 4),
-        "ip4" => (6, 4),
-        "ip6" => (7, 16),
-        "bytes" => (8, 0),
-        other => panic!("no kind is called {other:?}"),
-    };
-    let mut out = vec![kind, number(words[1], 1)[0]];
+    let kind = KINDS.iter().position(|&(word, _)| word == words[0]);
+    let kind = kind.unwrap_or_else(|| panic!("no kind is called {:?}", words[0]));
+    let (word, body) = KINDS[kind];
+    let mut out = vec![kind as u8 + 1];
+    if word == "close" {
+        return out;
+    }
+    out.extend(number(words[1], 1));
     out.extend(number(words[2], 4));
     out.extend(number(words[3], 4));
-    match words[0] {
+    match word {
         "ip4" => out.extend(words[4].split('.').flat_map(|part| number(part, 1))),
         "ip6" => out.extend(hex(words[4])),
-        _ if value > 0 => out.extend(number(words[4], value)),
+        _ if body > 9 => out.extend(number(words[4], body - 9)),
         _ => assert_eq!(words.len(), 4, "no value in {line:?}"),
     }
-    assert_eq!(out.len(), 10 + value, "the value of {line:?}");
+    assert_eq!(out.len(), 1 + body, "the value of {line:?}");
     out
 }
 

@@ -174,28 +174,33 @@ fn bytes(words: &[String]) -> Vec<u8> {
     words[..at].iter().map(byte).chain(counted).collect()
 }
 
-/// An entry's words for a strip's kind, with the widths of its values.
-const KINDS: [(&str, &[usize]); 8] = [
-    ("opens", &[]),
-    ("closes", &[]),
-    ("u8", &[1]),
-    ("u16", &[2]),
-    ("u32", &[4]),
-    ("ip4", &[4]),
-    ("ip6", &[8, 8]),
-    ("bytes", &[]),
-];
+/// The definitions' name of a kind, and the widths of the numbers in its body. An
+/// IPv6 address is two numbers.
+fn kind_of(kind: usize) -> (&'static str, Vec<usize>) {
+    let (word, body) = listing::KINDS[kind];
+    let widths = match body {
+        0 => vec![],
+        9 => vec![1, 4, 4],
+        25 => vec![1, 4, 4, 8, 8],
+        n => vec![1, 4, 4, n - 9],
+    };
+    let name = match word {
+        "open" => "opens",
+        "close" => "closes",
+        same => same,
+    };
+    (name, widths)
+}
 
 /// The strip of a row of entries, by the requirements' table.
 fn strip(entries: &[String]) -> Vec<u8> {
     let mut strip = Vec::new();
     let mut rest = entries.iter();
     while let Some(word) = rest.next() {
-        let kind = KINDS.iter().position(|(name, _)| name == word);
+        let kind = (0..listing::KINDS.len()).find(|&kind| kind_of(kind).0 == word);
         let kind = kind.unwrap_or_else(|| panic!("no kind: {word}"));
         strip.push(kind as u8 + 1);
-        let head: &[usize] = if kind == 1 { &[] } else { &[1, 4, 4] };
-        for width in head.iter().chain(KINDS[kind].1) {
+        for width in kind_of(kind).1 {
             let value = number(rest.next().expect("a value"));
             strip.extend(&value.to_be_bytes()[8 - width..]);
         }
@@ -208,11 +213,10 @@ fn written(strip: &[u8]) -> String {
     let mut out = String::new();
     let mut at = 0;
     while at < strip.len() {
-        let (name, values) = KINDS[strip[at] as usize - 1];
+        let (name, widths) = kind_of(strip[at] as usize - 1);
         at += 1;
         out += name;
-        let head: &[usize] = if name == "closes" { &[] } else { &[1, 4, 4] };
-        for (i, &width) in head.iter().chain(values).enumerate() {
+        for (i, width) in widths.into_iter().enumerate() {
             let value = strip[at..at + width]
                 .iter()
                 .fold(0, |n, &b| n << 8 | u64::from(b));

@@ -90,7 +90,7 @@ fn names_are_this_crates() {
 
 /// The requirements' word for a kind.
 fn word(kind: Kind) -> &'static str {
-    ["open", "close", "u8", "u16", "u32", "ip4", "ip6", "bytes"][kind as usize - 1]
+    listing::KINDS[kind as usize - 1].0
 }
 
 /// Kind and lengths of every id are those of the generated strips; a cell
@@ -130,23 +130,12 @@ fn kinds_and_lengths() {
 #[test]
 fn table_of_kinds() {
     let table = rows(&part("Entries"));
-    let examples = [
-        "open 1 2 3",
-        "close",
-        "u8 1 2 3 4",
-        "u16 1 2 3 4",
-        "u32 1 2 3 4",
-        "ip4 1 2 3 4.5.6.7",
-        "ip6 1 2 3 00000000000000000000000000000000",
-        "bytes 1 2 3",
-    ];
-    assert_eq!(table.len(), examples.len());
-    for ((kind, row), example) in table.iter().zip(examples) {
-        let entry = listing::strip(example);
-        let word = example.split(' ').next().unwrap_or_default();
-        assert_eq!((*kind, row[0].as_str()), (entry[0], word));
-        assert_eq!(row[1], (entry.len() - 1).to_string());
-    }
+    let kinds = (1..).zip(listing::KINDS);
+    let kinds = kinds.map(|(kind, (word, body))| (kind, word.to_string(), body.to_string()));
+    let written = table
+        .into_iter()
+        .map(|(kind, row)| (kind, row[0].clone(), row[1].clone()));
+    assert_eq!(written.collect::<Vec<_>>(), kinds.collect::<Vec<_>>());
 }
 
 /// Each line's bytes are those of its printed entry, and all lines are the

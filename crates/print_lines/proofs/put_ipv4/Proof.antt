@@ -1,6 +1,7 @@
 use native.Mathlib.Omega.{arith}
 use Rattle.format.proofs.Wrote.{then, kept}
 use Rattle.print_digits.proofs.Numerals.{length-dotted}
+use Rattle.print_lines.proofs.Room.{room-left}
 use borrow.Author.Needs.{needs}
 use Rattle.print_lines.proofs.put_ipv4.Statement.{statement}
 use Rattle.print_lines.proofs.put_ipv4.Tie as tie
@@ -10,11 +11,9 @@ put-u8-requires-2 c κs =
     let w = c .before .before .before .before .before .before .before .before .before .before .before .put-field .ensures in
     let x = c .before .before .before .before .before .before .before .put-u8 .ensures in
     let y = c .before .before .before .put-dotted .ensures in
-    let l = length-dotted (c .before .before .before .before .before .before .before .before .before .before .before .before .before .before .before .args .address) in
     let g = kept (w .0) in
-    let h = kept x in
-    let i = kept y in
-    omega (arith, x .place, y .place)
+    let r = room-left y 83 1 (length-dotted _) (room-left x 1 84 (omega arith) (omega arith)) in
+    omega arith
 
 returns : tie.Need-returns
 returns c = then (then (c .before .before .before .before .before .before .before .before .before .before .before .before .before .before .put-field .ensures .0) (then (c .before .before .before .before .before .before .before .before .before .before .put-u8 .ensures) (c .before .before .before .before .before .before .put-dotted .ensures))) (c .before .before .put-u82 .ensures)

@@ -2,8 +2,9 @@ use native.Mathlib.Omega.{arith}
 use mathlib.Core.Path.{_≡_}
 use borrow.Author.Tests.{eq-eqb}
 use Rattle.format.specs.Print.{firstLine}
-use Rattle.format.proofs.Wrote.{then, kept}
+use Rattle.format.proofs.Wrote.{then}
 use Rattle.print_digits.proofs.Numerals.{length-spaced}
+use Rattle.print_lines.proofs.Room.{room-left}
 use borrow.Author.Needs.{needs}
 use Rattle.print_lines.proofs.put_ok.Statement.{statement}
 use Rattle.print_lines.proofs.put_ok.Tie as tie
@@ -12,39 +13,23 @@ put-spaced-requires-2 : tie.Need-put-spaced-requires-2
 put-spaced-requires-2 c κs =
     let w = c .before .before .before .before .before .before .before .put-word .ensures in
     let x = c .before .before .before .put-spaced .ensures in
-    let l = length-spaced (c .before .before .before .before .before .before .before .before .before .before .before .args .answer .records) in
-    let g = kept w in
-    let h = kept x in
-    omega (arith, w .place, x .place)
+    room-left x 21 21 (length-spaced _) (room-left w 2 42 (omega arith) (omega arith))
 
 put-spaced-requires-3 : tie.Need-put-spaced-requires-3
 put-spaced-requires-3 c κs =
-    let a = c .before .before .before .before .before .before .before .before .before .before .before .before .before .before .before .args .answer in
     let w = c .before .before .before .before .before .before .before .before .before .before .before .put-word .ensures in
     let x = c .before .before .before .before .before .before .before .put-spaced .ensures in
     let y = c .before .before .before .put-spaced2 .ensures in
-    let l = length-spaced (a .records) in
-    let m = length-spaced (a .tail) in
-    let g = kept w in
-    let h = kept x in
-    let i = kept y in
-    omega (arith, w .place, x .place, y .place)
+    room-left y 21 21 (length-spaced _) (room-left x 21 42 (length-spaced _) (room-left w 2 63 (omega arith) (omega arith)))
 
 put-u8-requires : tie.Need-put-u8-requires
 put-u8-requires c κs =
-    let a = c .before .before .before .before .before .before .before .before .before .before .before .before .before .before .before .before .before .before .before .args .answer in
     let w = c .before .before .before .before .before .before .before .before .before .before .before .before .before .before .before .put-word .ensures in
     let x = c .before .before .before .before .before .before .before .before .before .before .before .put-spaced .ensures in
     let y = c .before .before .before .before .before .before .before .put-spaced2 .ensures in
     let z = c .before .before .before .put-spaced3 .ensures in
-    let l = length-spaced (a .records) in
-    let m = length-spaced (a .tail) in
-    let n = length-spaced (a .length) in
-    let g = kept w in
-    let h = kept x in
-    let i = kept y in
-    let j = kept z in
-    omega (arith, w .place, x .place, y .place, z .place)
+    let r = room-left z 21 1 (length-spaced _) (room-left y 21 22 (length-spaced _) (room-left x 21 43 (length-spaced _) (room-left w 2 64 (omega arith) (omega arith)))) in
+    omega arith
 
 returns : tie.Need-returns
 unfolding firstLine

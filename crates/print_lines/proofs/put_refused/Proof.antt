@@ -1,8 +1,9 @@
 use native.Mathlib.Omega.{arith}
 use borrow.Author.Tests.{ne-eqb}
 use Rattle.format.specs.Print.{firstLine}
-use Rattle.format.proofs.Wrote.{then, kept}
+use Rattle.format.proofs.Wrote.{then}
 use Rattle.print_digits.proofs.Numerals.{length-spaced}
+use Rattle.print_lines.proofs.Room.{room-left}
 use borrow.Author.Needs.{needs}
 use Rattle.print_lines.proofs.put_refused.Statement.{statement}
 use Rattle.print_lines.proofs.put_refused.Tie as tie
@@ -11,23 +12,15 @@ put-spaced-requires-2 : tie.Need-put-spaced-requires-2
 put-spaced-requires-2 c κs =
     let w = c .before .before .before .before .before .before .before .before .put-word .ensures in
     let x = c .before .before .before .put-spaced .ensures in
-    let l = length-spaced (c .before .before .before .before .before .before .before .before .before .before .before .before .args .answer .number) in
-    let g = kept w in
-    let h = kept x in
-    omega (arith, w .place, x .place)
+    room-left x 21 21 (length-spaced _) (room-left w 7 42 (omega arith) (omega arith))
 
 put-u8-requires : tie.Need-put-u8-requires
 put-u8-requires c κs =
-    let a = c .before .before .before .before .before .before .before .before .before .before .before .before .before .before .before .before .args .answer in
     let w = c .before .before .before .before .before .before .before .before .before .before .before .before .put-word .ensures in
     let x = c .before .before .before .before .before .before .before .put-spaced .ensures in
     let y = c .before .before .before .put-spaced2 .ensures in
-    let l = length-spaced (a .number) in
-    let m = length-spaced (a .length) in
-    let g = kept w in
-    let h = kept x in
-    let i = kept y in
-    omega (arith, w .place, x .place, y .place)
+    let r = room-left y 21 1 (length-spaced _) (room-left x 21 22 (length-spaced _) (room-left w 7 43 (omega arith) (omega arith))) in
+    omega arith
 
 returns : tie.Need-returns
 unfolding firstLine

@@ -4,11 +4,11 @@ use native.Mathlib.Omega.{arith}
 use mathlib.Core.Path.{_≡_, sym, _∙_}
 use lib.ListN.{length, take, drop, length-append, length-drop}
 use lib.Seq.{length-take-le, take-all}
-use Rattle.format.specs.Bytes.{part}
+use Rattle.format.specs.Bytes.{part, sameBytes}
 use Rattle.replay_call.specs.Stored.{keptAt}
-use Rattle.replay_expected.specs.Expected.{lent, sameBytes, storedBuffer}
+use Rattle.replay_expected.specs.Expected.{lent, storedBuffer}
 use Rattle.format.proofs.Lengths.{part-length}
-use Rattle.replay_expected.proofs.Bytes.{same-lengths, same-parts}
+use Rattle.format.proofs.SameBytes.{same-lengths, same-parts}
 use borrow.Author.Needs.{needs}
 use Rattle.replay_expected.proofs.is_buffer.Statement.{statement}
 use Rattle.replay_expected.proofs.is_buffer.Tie as tie

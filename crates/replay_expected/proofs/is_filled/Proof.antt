@@ -3,8 +3,10 @@ use Prim.Native.Nat.{_-_, _≤_}
 use native.Mathlib.Omega.{arith}
 use mathlib.Core.Path.{_≡_, refl, sym, _∙_}
 use lib.ListN.{length, drop}
-use Rattle.replay_expected.specs.Expected.{lent, sameBytes}
-use Rattle.replay_expected.proofs.Bytes.{lent-at, lent-length, same-next, same-stops, same-end}
+use Rattle.format.specs.Bytes.{sameBytes}
+use Rattle.format.proofs.SameBytes.{same-next, same-stops, same-end}
+use Rattle.replay_expected.specs.Expected.{lent}
+use Rattle.replay_expected.proofs.Bytes.{lent-at, lent-length}
 use Rattle.replay_expected.proofs.is_filled.Statement.{statement}
 use Rattle.replay_expected.proofs.is_filled.Tie as tie
 

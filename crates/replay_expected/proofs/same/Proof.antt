@@ -3,8 +3,8 @@ use Prim.Native.Nat.{_-_, _≤_}
 use native.Mathlib.Omega.{arith}
 use mathlib.Core.Path.{_≡_, refl, sym, _∙_}
 use lib.ListN.{length, drop}
-use Rattle.replay_expected.specs.Expected.{sameBytes}
-use Rattle.replay_expected.proofs.Bytes.{same-next, same-stops, same-end, same-lengths}
+use Rattle.format.specs.Bytes.{sameBytes}
+use Rattle.format.proofs.SameBytes.{same-next, same-stops, same-end, same-lengths}
 use Rattle.replay_expected.proofs.same.Statement.{statement}
 use Rattle.replay_expected.proofs.same.Tie as tie
 

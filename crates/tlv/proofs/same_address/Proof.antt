@@ -3,8 +3,8 @@ use Prim.Native.Nat.{_-_, _≤_}
 use native.Mathlib.Omega.{arith}
 use mathlib.Core.Path.{_≡_, refl, sym, _∙_}
 use lib.ListN.{length, drop}
-use Rattle.format.specs.Prefix.{sameBytes}
-use Rattle.tlv.proofs.Loops.{differ, agree, agreed}
+use Rattle.format.specs.Bytes.{sameBytes}
+use Rattle.format.proofs.SameBytes.{same-next, same-stops, same-end}
 use Rattle.tlv.proofs.same_address.Statement.{statement}
 use Rattle.tlv.proofs.same_address.Tie as tie
 
@@ -21,19 +21,19 @@ returns : tie.Need-returns Inv-loop μ-loop
 returns c =
     let l = c .before .before .loop in
     let h = l .inv in
-    sym (h .3 ∙ differ _ _ 16 (l .i) (h .1) (h .2) (omega arith) (c .if1 .taken))
+    sym (h .3 ∙ same-stops _ _ (l .i) (omega (arith, h .1)) (omega (arith, h .2)) (c .if1 .taken))
 
 loop-again : tie.Need-loop-again Inv-loop μ-loop
 loop-again c =
     let l = c .before .before .loop in
     let h = l .inv in
-    (omega arith, h .1, h .2, h .3 ∙ agree _ _ 16 (l .i) (h .1) (h .2) (omega arith) (c .if1 .left))
+    (omega arith, h .1, h .2, h .3 ∙ same-next _ _ (l .i) (omega (arith, h .1)) (omega (arith, h .2)) (c .if1 .left))
 
 returns-2 : tie.Need-returns-2 Inv-loop μ-loop
 returns-2 c =
     let l = c .before .loop in
     let h = l .inv in
-    sym (h .3 ∙ agreed _ _ 16 (l .i) (h .1) (h .2) (omega arith))
+    sym (h .3 ∙ same-end _ _ (l .i) (omega (arith, h .1)) (omega (arith, h .2)))
 
 pub same-address-spec : {M : Type 1} → statement M
 same-address-spec = tie.close (tie.spec

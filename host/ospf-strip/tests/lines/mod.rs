@@ -4,8 +4,7 @@ use ospf_strip::{Entry, Value};
 
 /// The line that the program `dissect` prints for an entry.
 pub fn line(entry: &Entry) -> String {
-    let word = ["open", "close", "u8", "u16", "u32", "ip4", "ip6", "bytes"];
-    let word = word[entry.kind() as usize - 1];
+    let (word, _) = listing::KINDS[entry.kind() as usize - 1];
     let Some((id, range)) = entry.id().zip(entry.range()) else {
         return word.to_string();
     };
