@@ -16,6 +16,8 @@ use Rattle.format.proofs.Bounds.{ownOf, restOf, own-and-rest}
 use Rattle.body.specs.Answers.{Pushed, pushedOf, measuredOf, bytesOf}
 use Rattle.body.specs.declared.Body.{Body}
 use Rattle.body.specs.declared.Body.the-variants.{Decoded, Raw}
+use Rattle.body.specs.declared.Measured.{Measured}
+use Rattle.body.specs.declared.Measured.the-variants as measured
 
 -- Its entries are written, up to the place that is answered.
 pub pushed-decoded : {l₀ l : List ℕ} {at a : ℕ} (es : List Entry) (n m : ℕ) → m ≡ n → Wrote l₀ at (encode es) l a → Pushed (decoded es n) l₀ at l (Decoded a m)
@@ -55,7 +57,7 @@ pushed-is-raw (decoded es m) at y p e = let z : _≡_ {A = ℕ} 0 1 = cc in absu
 pushed-is-raw raw at y p e = (refl, λ r u b o. refl)
 
 -- The same of a body that was only measured.
-pub measured-is-decoded : (x : body.Body) (a n : ℕ) (y : Body) → y ≡ measuredOf x → y ≡ Decoded a n
+pub measured-is-decoded : (x : body.Body) (a n : ℕ) (y : Measured) → y ≡ measuredOf x → y ≡ measured.Decoded a n
     → (a ≡ length (bytesOf x)) × ((b : List ℕ) → bodyTail x b ≡ length b - n) × ((r u : ℕ) (b : List ℕ) (o : ℕ) → restOf r u x b o ≡ leftover u b o n)
 unfolding bodyTail
 measured-is-decoded (decoded es m) a n y p e =
@@ -64,7 +66,7 @@ measured-is-decoded (decoded es m) a n y p e =
     (sym q, λ b. rw z, λ r u b o. rw z)
 measured-is-decoded raw a n y p e = let z : _≡_ {A = ℕ} 0 1 = cc in absurd (omega arith)
 
-pub measured-is-raw : (x : body.Body) (y : Body) → y ≡ measuredOf x → y ≡ Raw
+pub measured-is-raw : (x : body.Body) (y : Measured) → y ≡ measuredOf x → y ≡ measured.Raw
     → (bytesOf x ≡ []) × ((b : List ℕ) → bodyTail x b ≡ 0) × ((r u : ℕ) (b : List ℕ) (o : ℕ) → restOf r u x b o ≡ leftover r b o 0)
 unfolding bodyTail
 measured-is-raw (decoded es m) y p e = let z : _≡_ {A = ℕ} 0 1 = cc in absurd (omega arith)
@@ -86,15 +88,15 @@ module _ (hs : List Entry) (r u : ℕ) (x : body.Body) (b : List ℕ) (o : ℕ) 
       let own : Wrote l₁ a₁ (bytesOf x) l₂ a₁ = record { place = rw (d .0, add-zero); contents = p .contents } in
       rw (encode-lsa hs r u x b o, d .1 r u b o) (then v (then own w))
 
--- Two answers are the same where their parts are.
-pub same-decoded : {a a′ n n′ : ℕ} → a ≡ a′ → n ≡ n′ → Decoded a n ≡ Decoded a′ n′
+-- Two measures are the same where their parts are.
+pub same-decoded : {a a′ n n′ : ℕ} → a ≡ a′ → n ≡ n′ → measured.Decoded a n ≡ measured.Decoded a′ n′
 same-decoded e f = rw (e, f)
 
 -- All bytes from n on are what `drop` leaves.
 pub to-the-end : (d : List ℕ) (n : ℕ) → take (length d - n) (drop n d) ≡ drop n d
 to-the-end d n = take-all (length d - n) (drop n d) (let l = length-drop n d in omega arith)
 
--- What is left of a body has room where the whole LSA has, and adds to its length.
+-- What is left of a body has room where the whole LSA has.
 module _ (hs : List Entry) (r u : ℕ) (x : body.Body) (b : List ℕ) (o : ℕ) (y : Body) where
   pub room-decoded : (a₀ : ℕ) {a₁ m : ℕ} (a n : ℕ) → y ≡ pushedOf a₁ x → y ≡ Decoded a n → a₁ ≡ a₀ + length (encode hs)
       → a₀ + length (encode (hs ++ bodyEntries r u x b o)) ≤ m → a + length (encode (leftover u b o n)) ≤ m
@@ -110,14 +112,16 @@ module _ (hs : List Entry) (r u : ℕ) (x : body.Body) (b : List ℕ) (o : ℕ) 
       let q = rw (d .1 r u b o, d .0) at (length-lsa hs r u x b o) in
       omega arith
 
-  pub length-decoded : (a n : ℕ) → y ≡ measuredOf x → y ≡ Decoded a n
+-- And it adds to the LSA's length.
+module _ (hs : List Entry) (r u : ℕ) (x : body.Body) (b : List ℕ) (o : ℕ) (y : Measured) where
+  pub length-decoded : (a n : ℕ) → y ≡ measuredOf x → y ≡ measured.Decoded a n
       → length (encode hs) + a + length (encode (leftover u b o n)) ≡ length (encode (hs ++ bodyEntries r u x b o))
   length-decoded a n p e =
       let d = measured-is-decoded x a n y p e in
       let q = rw (d .2 r u b o) at (length-lsa hs r u x b o) in
       omega (arith, d .0)
 
-  pub length-raw : y ≡ measuredOf x → y ≡ Raw
+  pub length-raw : y ≡ measuredOf x → y ≡ measured.Raw
       → length (encode hs) + length (encode (leftover r b o 0)) ≡ length (encode (hs ++ bodyEntries r u x b o))
   length-raw p e =
       let d = measured-is-raw x y p e in

@@ -9,6 +9,8 @@ use Rattle.format.specs.Body as body
 use Rattle.format.specs.Body.Body.{decoded, raw}
 use Rattle.body.specs.declared.Body.{Body}
 use Rattle.body.specs.declared.Body.the-variants.{Decoded, Raw}
+use Rattle.body.specs.declared.Measured.{Measured}
+use Rattle.body.specs.declared.Measured.the-variants as measured
 
 -- What a body's own entries are as bytes; a raw body has none.
 abbrev pub bytesOf : body.Body → List ℕ
@@ -16,9 +18,9 @@ bytesOf (decoded es n) = encode es
 bytesOf raw = []
 
 -- The answer of a function that measures a body.
-abbrev pub measuredOf : body.Body → Body
-measuredOf (decoded es n) = Decoded (length (encode es)) n
-measuredOf raw = Raw
+abbrev pub measuredOf : body.Body → Measured
+measuredOf (decoded es n) = measured.Decoded (length (encode es)) n
+measuredOf raw = measured.Raw
 
 -- The answer of a function that writes a body's entries from a place on.
 abbrev pub pushedOf : ℕ → body.Body → Body

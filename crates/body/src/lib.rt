@@ -1,5 +1,5 @@
-// What the LSA bodies of both versions share: the answer of a body's functions, the array of attached routers, and the
-// bytes that are left of a body.
+// What the LSA bodies of both versions share: the answers of a body's functions, the flags of a router, the array of
+// attached routers, and the bytes that are left of a body.
 ghost use mathlib.Core.Path.{_≡_};
 ghost use Prim.Native.Nat.{ℕ, _+_, _-_, _*_, _≤_, _<_};
 ghost use mathlib.Core.List.{flatMap};
@@ -7,25 +7,40 @@ ghost use lib.ListN.{length};
 ghost use Rattle.format.specs.Strip.{encode};
 ghost use Rattle.format.specs.Wrote.{Wrote};
 ghost use Rattle.format.specs.Cut.{cut, after, fixedRule};
-ghost use Rattle.format.specs.Body.{leftover, listing, whole, attachedRouter};
+ghost use Rattle.format.specs.Body.{leftover, listing, whole, routerFlags, attachedRouter};
+use strip_ids::ATTACHED_ROUTER;
+use strip_push::BYTES_LENGTH;
+use strip_push::CONTAINER_LENGTH;
+use strip_push::IPV4_LENGTH;
+use strip_push::U8_LENGTH;
 use strip_push::begin_container;
 use strip_push::end_container;
+use strip_push::push_bit_at;
 use strip_push::push_bytes;
 use strip_push::push_ipv4_at;
+use strip_push::push_u8_at;
 
-// A router's id in an array of attached routers.
-const ATTACHED_ROUTER: u8 = 98;
-
-// What became of a body: the place after its entries and the number of bytes consumed, or that it is raw. For a body that
-// is only measured the place is counted from where the entries begin.
+// What became of a body that is pushed: the place after its entries and the number of bytes consumed, or that it is raw.
 pub enum Body {
     Decoded { at: usize, consumed: usize },
     Raw,
 }
 
-// A list in a strip: the place after its entries, and where in the body it ends. The place as in `Body`.
+// The same of a body that is measured: the length of its entries in a strip.
+pub enum Measured {
+    Decoded { length: usize, consumed: usize },
+    Raw,
+}
+
+// A list that is pushed: the place after its entries, and where in the body it ends.
 pub struct Listed {
     pub at: usize,
+    pub end: usize,
+}
+
+// The same of a list that is measured: the length of its entries in a strip.
+pub struct MeasuredList {
+    pub length: usize,
     pub end: usize,
 }
 
@@ -46,7 +61,7 @@ pub fn bytes_from(body: &[u8], p: usize) -> usize
 pub fn measure_unparsed(body: &[u8], p: usize) -> usize
     ensures { λ r. ⌜ ((i o : ℕ) → r ≡ length (encode (leftover i (now (body .entry)) o p))) ⌝ }
 {
-    if p < body.len() { 10 } else { 0 }
+    if p < body.len() { BYTES_LENGTH } else { 0 }
 }
 
 // The bytes from p to the end of a body, if there are any.
@@ -63,16 +78,35 @@ pub fn push_unparsed(strip: &mut [u8], at: usize, id: u8, body: &[u8], p: usize,
     }
 }
 
+// What `push_router_flags` writes.
+pub const ROUTER_FLAGS_LENGTH: usize = 5 * U8_LENGTH;
+
+// The flags of a router and its bits Nt, V, E and B, whose ids follow one another from id on (RFC 2328 A.4.2, RFC 3101,
+// RFC 5340 A.4.3).
+pub fn push_router_flags(strip: &mut [u8], at: usize, id: u8, body: &[u8], o: u32) -> usize
+    requires { ⌜ at + length (encode (routerFlags id (now body) o)) ≤ length (now strip) ⌝ }
+    requires { ⌜ id ≤ 251 ⌝ }
+    requires { ⌜ 1 ≤ length (now body) ⌝ }
+    requires { ⌜ o + length (now body) < 4294967296 ⌝ }
+    ensures { λ r. ⌜ Wrote (now (strip .entry)) at (encode (routerFlags id (now (body .entry)) o)) (now (strip .exit)) r ⌝ }
+{
+    let a = push_u8_at(strip, at, id, body, 0, o);
+    let b = push_bit_at(strip, a, id + 1, body, 0, o, 0x10);
+    let c = push_bit_at(strip, b, id + 2, body, 0, o, 0x04);
+    let d = push_bit_at(strip, c, id + 3, body, 0, o, 0x02);
+    push_bit_at(strip, d, id + 4, body, 0, o, 0x01)
+}
+
 // The length of what `push_attached_routers` writes, under any id and wherever the body lies.
-pub fn measure_attached_routers(body: &[u8]) -> Listed
+pub fn measure_attached_routers(body: &[u8]) -> MeasuredList
     requires { ⌜ 4 ≤ length (now body) ⌝ }
     requires { ⌜ length (now body) < 65536 ⌝ }
-    ensures { λ r. ⌜ ((i o : ℕ) → r .at ≡ length (encode (listing i (attachedRouter (now (body .entry)) o) o 4 (whole 4 (now (body .entry)) 4)))) ⌝ }
+    ensures { λ r. ⌜ ((i o : ℕ) → r .length ≡ length (encode (listing i (attachedRouter (now (body .entry)) o) o 4 (whole 4 (now (body .entry)) 4)))) ⌝ }
     ensures { λ r. ⌜ r .end ≡ after 4 (whole 4 (now (body .entry)) 4) ⌝ }
 {
     let count = (body.len() - 4) / 4;
-    Listed {
-        at: 11 + count * 14,
+    MeasuredList {
+        length: CONTAINER_LENGTH + count * IPV4_LENGTH,
         end: 4 + count * 4,
     }
 }

@@ -10,10 +10,10 @@ use Rattle.format.specs.Strip.Entry.{bytes}
 use Rattle.format.specs.Prefix.{octets, address}
 use Rattle.format.specs.Cut.{cut, after, standing}
 use Rattle.format.specs.Header.{headerEntries2, headerEntries3}
-use Rattle.format.specs.Body.{Body, listing, listingIfAny, whole, leftover, bodyEntries, bodyTail}
+use Rattle.format.specs.Body.{Body, routerFlags, listing, listingIfAny, whole, leftover, bodyEntries, bodyTail}
 use Rattle.format.specs.Body.Body.{decoded, raw}
 use Rattle.format.specs.V2.{link, linkTos, routerLsa2, body2, lsaEntries2, lsaTail2}
-use Rattle.format.specs.V3.{prefixFits, externalLsa3, tlvLsa, body3, lsaEntries3, lsaTail3, routerFlags, options}
+use Rattle.format.specs.V3.{prefixFits, externalLsa3, tlvLsa, body3, lsaEntries3, lsaTail3, options}
 use Rattle.format.specs.Walks.{answer, answerOf, unless, headersOf, updateOf, lsaOf, outer, headerObject, lsaObject, lsaEntries, headerEntries}
 use Rattle.format.specs.Ranges.{range, ranges}
 use Rattle.format.proofs.Layouts2.{Layouts2, layouts2}
@@ -74,7 +74,7 @@ pub record Examples : Type 0 where
   pub p10-raw : body3 5 (external 39) 20 ≡ raw
   -- version 3 function 33: 3 bytes are raw; 4 give flags, options and empty tlvs
   pub p11-raw : body3 33 (zeros 3) 20 ≡ raw
-  pub p11-decoded : body3 33 (zeros 4) 20 ≡ decoded (routerFlags (zeros 4) 20 ++ (options (zeros 4) 20 ∷ bytes 32 24 24 ∷ [])) 4
+  pub p11-decoded : body3 33 (zeros 4) 20 ≡ decoded (routerFlags 7 (zeros 4) 20 ++ (options (zeros 4) 20 ∷ bytes 32 24 24 ∷ [])) 4
   -- a version 2 Router-LSA with an empty body
   pub p12 : lsaEntries 2 (typed 1) 0 ≡ headerEntries 2 (typed 1) 0
   -- an LSA of each layout, with all its entries

@@ -7,7 +7,7 @@ use lib.Dec.{ltb}
 use Rattle.format.specs.Strip.{Entry, container}
 use Rattle.format.specs.Strip.Entry.{bytes}
 use Rattle.format.specs.Layout.{Layout, entriesAt}
-use Rattle.format.specs.Layout.Field.{ip4}
+use Rattle.format.specs.Layout.Field.{u8, bit, ip4}
 use Rattle.format.specs.Layout.Row.{row}
 use Rattle.format.specs.Cut.{Span, cut, after, fixedRule}
 
@@ -46,6 +46,20 @@ bodyTail raw b = 0
 -- The id of a link's object in a Router-LSA of either version.
 abbrev pub linkObject : ℕ
 linkObject = 96
+
+-- The flags of a router in either version, whose ids follow one another (RFC 2328 A.4.2, RFC 5340 A.4.3, and RFC 3101 for
+-- the Nt bit).
+abbrev pub routerFlagRows : ℕ → Layout
+routerFlagRows i =
+    row 0 u8 i ∷  -- flags
+    row 0 (bit 0x10) (i + 1) ∷  -- Nt
+    row 0 (bit 0x04) (i + 2) ∷  -- V
+    row 0 (bit 0x02) (i + 3) ∷  -- E
+    row 0 (bit 0x01) (i + 4) ∷  -- B
+    []
+
+abbrev pub routerFlags : ℕ → List ℕ → ℕ → List Entry
+routerFlags i b o = entriesAt (routerFlagRows i) b o 0
 
 -- A router's id in a Network-LSA of either version (RFC 2328 A.4.3, RFC 5340 A.4.4).
 abbrev pub attachedRouterRows : Layout

@@ -12,12 +12,15 @@ use Rattle.format.specs.Layout.Field.{u8, bit, lowBits, u16, wide16, met
 use Rattle.format.specs.Layout.Row.{row}
 use Rattle.format.specs.Cut.{Span, cut, after, linkRule, fixedRule}
 use Rattle.format.specs.Header.{headerSize, headerEntries2}
-use Rattle.format.specs.Body.{Body, linkObject, listing, listingIfAny, whole, attachedRouter, bodyEntries, bodyTail}
+use Rattle.format.specs.Body.{Body, linkObject, listing, listingIfAny, whole, routerFlagRows, attachedRouter, bodyEntries, bodyTail}
 use Rattle.format.specs.Body.Body.{decoded, raw}
 
--- Ids that stand in more than one table: of a body, and of the TOS metrics in it.
+-- Ids that stand in more than one table: of a body, and of the TOS metrics in it. Those of the flags follow one another.
+abbrev flags : ℕ
+flags = 10
+
 abbrev flagE : ℕ
-flagE = 13
+flagE = flags + 3
 
 abbrev networkMask : ℕ
 networkMask = 17
@@ -79,23 +82,10 @@ firstLink = 4
 abbrev pub links : List ℕ → List Span
 links b = cut linkRule b (be16At b 2) firstLink
 
--- RFC 2328 A.4.2 and RFC 3101: the flags of a router.
-abbrev pub routerFlagRows : Layout
-routerFlagRows =
-    row 0 u8 10 ∷  -- flags
-    row 0 (bit 0x10) 11 ∷  -- Nt
-    row 0 (bit 0x04) 12 ∷  -- V
-    row 0 (bit 0x02) flagE ∷  -- E
-    row 0 (bit 0x01) 14 ∷  -- B
-    []
-
-abbrev pub routerFlags : List ℕ → ℕ → List Entry
-routerFlags b o = entriesAt routerFlagRows b o 0
-
 -- RFC 2328 A.4.2: flags, 0, # links, links.
 abbrev pub routerRows : Layout
 routerRows =
-    routerFlagRows ++ (
+    routerFlagRows flags ++ (
     row 2 u16 15 ∷  -- # links
     [])
 

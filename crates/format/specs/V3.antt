@@ -14,15 +14,15 @@ use Rattle.format.specs.Layout.Field.{u8, bit, u16, wide16, u24, metric2
 use Rattle.format.specs.Layout.Row.{row}
 use Rattle.format.specs.Cut.{Span, cut, after, prefixRule}
 use Rattle.format.specs.Header.{headerSize, headerEntries3}
-use Rattle.format.specs.Body.{Body, linkObject, listing, whole, attachedRouter, bodyEntries, bodyTail}
+use Rattle.format.specs.Body.{Body, linkObject, listing, whole, routerFlagRows, attachedRouter, bodyEntries, bodyTail}
 use Rattle.format.specs.Body.Body.{decoded, raw}
 
--- Ids that stand in more than one table.
+-- Ids that stand in more than one table. Those of a router's flags follow one another.
 abbrev flags : ℕ
 flags = 7
 
 abbrev flagE : ℕ
-flagE = 10
+flagE = flags + 3
 
 abbrev metric : ℕ
 metric = 17
@@ -50,19 +50,6 @@ numberOfPrefixes = 28
 
 abbrev prefixes : ℕ
 prefixes = 29
-
--- RFC 5340 A.4.3: the flags of a router.
-abbrev pub routerFlagRows : Layout
-routerFlagRows =
-    row 0 u8 flags ∷  -- flags
-    row 0 (bit 0x10) 8 ∷  -- Nt
-    row 0 (bit 0x04) 9 ∷  -- V
-    row 0 (bit 0x02) flagE ∷  -- E
-    row 0 (bit 0x01) 11 ∷  -- B
-    []
-
-abbrev pub routerFlags : List ℕ → ℕ → List Entry
-routerFlags b o = entriesAt routerFlagRows b o 0
 
 -- RFC 5340 A.2: the options, of 24 bits. They lie alike in every body that has them.
 abbrev pub optionsRow : Row
@@ -94,7 +81,7 @@ link b o s = container linkObject (o + s .at) (o + s .at + 16) (linkFields b o (
 -- RFC 5340 A.4.3: flags, Options, and links of 16 bytes, which are not counted.
 abbrev pub routerRows : Layout
 routerRows =
-    routerFlagRows ++ (
+    routerFlagRows flags ++ (
     optionsRow ∷  -- Options
     [])
 

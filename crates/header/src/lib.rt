@@ -7,6 +7,8 @@ ghost use Rattle.format.specs.Header.{headerSize, maxAge, instanceEntries, head
 ghost use Rattle.format.specs.Strip.{encode};
 ghost use Rattle.format.specs.Wrote.{Wrote};
 ghost use Rattle.header.specs.Answers.{headerOf, readingOf, newnessOf, meaning};
+use strip_push::U16_LENGTH;
+use strip_push::U32_LENGTH;
 use strip_push::push_u16_at;
 use strip_push::push_u32_at;
 use util::read_be_u16;
@@ -104,9 +106,11 @@ impl LsaHeader {
     }
 }
 
-// LS sequence number, LS checksum and length, whose ids follow one another from id on.
+// LS sequence number, LS checksum and length, whose ids follow one another from id on; and how long they are in a strip.
+const INSTANCE_LENGTH: usize = U32_LENGTH + 2 * U16_LENGTH;
+
 fn push_instance_fields(strip: &mut [u8], at: usize, id: u8, body: &[u8], o: u32) -> usize
-    requires { ⌜ at + 38 ≤ length (now strip) ⌝ }
+    requires { ⌜ at + length (encode (instanceEntries id (now body) o)) ≤ length (now strip) ⌝ }
     requires { ⌜ id ≤ 5 ⌝ }
     requires { ⌜ headerSize ≤ length (now body) ⌝ }
     requires { ⌜ o + length (now body) < 4294967296 ⌝ }

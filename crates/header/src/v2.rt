@@ -5,29 +5,23 @@ ghost use lib.ListN.{length};
 ghost use Rattle.format.specs.Header.{headerSize, headerEntries2, identityEntries2, opaqueEntries, isOpaque};
 ghost use Rattle.format.specs.Strip.{encode};
 ghost use Rattle.format.specs.Wrote.{Wrote};
+use crate::INSTANCE_LENGTH;
 use crate::LsaHeader;
 use crate::push_instance_fields;
+use strip_ids::v2;
+use strip_push::IPV4_LENGTH;
+use strip_push::U8_LENGTH;
+use strip_push::U16_LENGTH;
+use strip_push::U32_LENGTH;
 use strip_push::push_ipv4_at;
 use strip_push::push_u8_at;
 use strip_push::push_u16_at;
 use strip_push::push_u24_at;
 
-// Field ids. Those of the LS checksum and the length follow that of the LS sequence number.
-const LS_AGE: u8 = 0;
+// How long a header's fields are in a strip, and those of an opaque LSA's.
+const FIELDS_LENGTH: usize = U16_LENGTH + 2 * U8_LENGTH + 2 * IPV4_LENGTH + INSTANCE_LENGTH;
 
-const OPTIONS: u8 = 1;
-
-const LS_TYPE: u8 = 2;
-
-const LINK_STATE_ID: u8 = 3;
-
-const ADVERTISING_ROUTER: u8 = 4;
-
-const LS_SEQUENCE_NUMBER: u8 = 5;
-
-const OPAQUE_TYPE: u8 = 8;
-
-const OPAQUE_ID: u8 = 9;
+const OPAQUE_FIELDS_LENGTH: usize = FIELDS_LENGTH + U8_LENGTH + U32_LENGTH;
 
 pub fn is_opaque(ls_type: u8) -> bool
     ensures { λ r. ⌜ r ≡ isOpaque «ls_type» ⌝ }
@@ -40,7 +34,11 @@ pub fn measure_lsa_header_fields(body: &[u8]) -> usize
     requires { ⌜ headerSize ≤ length (now body) ⌝ }
     ensures { λ r. ⌜ ((o : ℕ) → r ≡ length (encode (headerEntries2 (now (body .entry)) o))) ⌝ }
 {
-    if is_opaque(body[3]) { 125 } else { 100 }
+    if is_opaque(body[3]) {
+        OPAQUE_FIELDS_LENGTH
+    } else {
+        FIELDS_LENGTH
+    }
 }
 
 pub fn push_lsa_header_fields(strip: &mut [u8], at: usize, body: &[u8], o: u32) -> usize
@@ -52,7 +50,7 @@ pub fn push_lsa_header_fields(strip: &mut [u8], at: usize, body: &[u8], o: u32) 
     // Lent anew: a slice that is handed on as it came is read again after every store.
     let header = &body[..];
     let a = push_identity_fields(strip, at, header, o);
-    let b = push_instance_fields(strip, a, LS_SEQUENCE_NUMBER, header, o);
+    let b = push_instance_fields(strip, a, v2::LS_SEQUENCE_NUMBER, header, o);
     if is_opaque(header[3]) {
         push_opaque_fields(strip, b, header, o)
     } else {
@@ -71,25 +69,25 @@ pub fn push_lsa_header(strip: &mut [u8], at: usize, lsa: &[u8], o: u32) -> usize
 }
 
 fn push_identity_fields(strip: &mut [u8], at: usize, body: &[u8], o: u32) -> usize
-    requires { ⌜ at + 62 ≤ length (now strip) ⌝ }
+    requires { ⌜ at + length (encode (identityEntries2 (now body) o)) ≤ length (now strip) ⌝ }
     requires { ⌜ headerSize ≤ length (now body) ⌝ }
     requires { ⌜ o + length (now body) < 4294967296 ⌝ }
     ensures { λ r. ⌜ Wrote (now (strip .entry)) at (encode (identityEntries2 (now (body .entry)) o)) (now (strip .exit)) r ⌝ }
 {
-    let a = push_u16_at(strip, at, LS_AGE, body, 0, o);
-    let b = push_u8_at(strip, a, OPTIONS, body, 2, o);
-    let c = push_u8_at(strip, b, LS_TYPE, body, 3, o);
-    let d = push_ipv4_at(strip, c, LINK_STATE_ID, body, 4, o);
-    push_ipv4_at(strip, d, ADVERTISING_ROUTER, body, 8, o)
+    let a = push_u16_at(strip, at, v2::LS_AGE, body, 0, o);
+    let b = push_u8_at(strip, a, v2::OPTIONS, body, 2, o);
+    let c = push_u8_at(strip, b, v2::LS_TYPE, body, 3, o);
+    let d = push_ipv4_at(strip, c, v2::LINK_STATE_ID, body, 4, o);
+    push_ipv4_at(strip, d, v2::ADVERTISING_ROUTER, body, 8, o)
 }
 
 // The Link State ID of an opaque LSA, as its two parts.
 fn push_opaque_fields(strip: &mut [u8], at: usize, body: &[u8], o: u32) -> usize
-    requires { ⌜ at + 25 ≤ length (now strip) ⌝ }
+    requires { ⌜ at + length (encode (opaqueEntries (now body) o)) ≤ length (now strip) ⌝ }
     requires { ⌜ headerSize ≤ length (now body) ⌝ }
     requires { ⌜ o + length (now body) < 4294967296 ⌝ }
     ensures { λ r. ⌜ Wrote (now (strip .entry)) at (encode (opaqueEntries (now (body .entry)) o)) (now (strip .exit)) r ⌝ }
 {
-    let a = push_u8_at(strip, at, OPAQUE_TYPE, body, 4, o);
-    push_u24_at(strip, a, OPAQUE_ID, body, 5, o)
+    let a = push_u8_at(strip, at, v2::OPAQUE_TYPE, body, 4, o);
+    push_u24_at(strip, a, v2::OPAQUE_ID, body, 5, o)
 }

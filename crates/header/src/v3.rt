@@ -6,28 +6,25 @@ ghost use lib.ListN.{length};
 ghost use Rattle.format.specs.Header.{headerSize, headerEntries3, identityEntries3};
 ghost use Rattle.format.specs.Strip.{encode};
 ghost use Rattle.format.specs.Wrote.{Wrote};
+use crate::INSTANCE_LENGTH;
 use crate::LsaHeader;
 use crate::push_instance_fields;
+use strip_ids::v3;
+use strip_push::IPV4_LENGTH;
+use strip_push::U16_LENGTH;
+use strip_push::U32_LENGTH;
 use strip_push::push_ipv4_at;
 use strip_push::push_u16_at;
 use strip_push::push_u32_at;
 
-// Field ids. Those of the LS checksum and the length follow that of the LS sequence number.
-const LS_AGE: u8 = 0;
-
-const LS_TYPE: u8 = 1;
-
-const LINK_STATE_ID: u8 = 2;
-
-const ADVERTISING_ROUTER: u8 = 3;
-
-const LS_SEQUENCE_NUMBER: u8 = 4;
+// How long a header's fields are in a strip.
+const FIELDS_LENGTH: usize = 2 * U16_LENGTH + U32_LENGTH + IPV4_LENGTH + INSTANCE_LENGTH;
 
 // The length of what `push_lsa_header_fields` writes, whatever the header says and wherever it lies.
 pub fn measure_lsa_header_fields() -> usize
     ensures { λ r. ⌜ ((b : List ℕ) (o : ℕ) → r ≡ length (encode (headerEntries3 b o))) ⌝ }
 {
-    90
+    FIELDS_LENGTH
 }
 
 pub fn push_lsa_header_fields(strip: &mut [u8], at: usize, body: &[u8], o: u32) -> usize
@@ -39,7 +36,7 @@ pub fn push_lsa_header_fields(strip: &mut [u8], at: usize, body: &[u8], o: u32) 
     // Lent anew: a slice that is handed on as it came is read again after every store.
     let header = &body[..];
     let a = push_identity_fields(strip, at, header, o);
-    push_instance_fields(strip, a, LS_SEQUENCE_NUMBER, header, o)
+    push_instance_fields(strip, a, v3::LS_SEQUENCE_NUMBER, header, o)
 }
 
 // The same of an LSA. The strip is lent from its place on: a store at one address takes less than one at a sum of two.
@@ -53,13 +50,13 @@ pub fn push_lsa_header(strip: &mut [u8], at: usize, lsa: &[u8], o: u32) -> usize
 }
 
 fn push_identity_fields(strip: &mut [u8], at: usize, body: &[u8], o: u32) -> usize
-    requires { ⌜ at + 52 ≤ length (now strip) ⌝ }
+    requires { ⌜ at + length (encode (identityEntries3 (now body) o)) ≤ length (now strip) ⌝ }
     requires { ⌜ headerSize ≤ length (now body) ⌝ }
     requires { ⌜ o + length (now body) < 4294967296 ⌝ }
     ensures { λ r. ⌜ Wrote (now (strip .entry)) at (encode (identityEntries3 (now (body .entry)) o)) (now (strip .exit)) r ⌝ }
 {
-    let a = push_u16_at(strip, at, LS_AGE, body, 0, o);
-    let b = push_u16_at(strip, a, LS_TYPE, body, 2, o);
-    let c = push_u32_at(strip, b, LINK_STATE_ID, body, 4, o);
-    push_ipv4_at(strip, c, ADVERTISING_ROUTER, body, 8, o)
+    let a = push_u16_at(strip, at, v3::LS_AGE, body, 0, o);
+    let b = push_u16_at(strip, a, v3::LS_TYPE, body, 2, o);
+    let c = push_u32_at(strip, b, v3::LINK_STATE_ID, body, 4, o);
+    push_ipv4_at(strip, c, v3::ADVERTISING_ROUTER, body, 8, o)
 }

@@ -14,23 +14,14 @@ use body::push_attached_routers;
 use body::push_unparsed;
 use header::LsaHeader;
 use header::v2::push_lsa_header;
+use strip_ids::v2;
 use strip_push::push_bytes;
 use strip_push::push_ipv4_at;
 use v2_router::push_router_lsa;
-use v2_routes::NETWORK_MASK;
 use v2_routes::push_external_lsa;
 use v2_routes::push_summary_lsa;
 
 pub mod measure;
-
-// Ids of an LSA's fields, beside those that `v2_router` and `v2_routes` have.
-const ATTACHED_ROUTERS: u8 = 18;
-
-const BODY: u8 = 23;
-
-const TLVS: u8 = 24;
-
-const UNPARSED: u8 = 25;
 
 // A whole LSA: its header, its body, and what is left of that.
 pub fn push_lsa(strip: &mut [u8], at: usize, lsa: &[u8], o: u32) -> usize
@@ -44,8 +35,15 @@ pub fn push_lsa(strip: &mut [u8], at: usize, lsa: &[u8], o: u32) -> usize
     let start = o + LsaHeader::SIZE as u32;
     let pushed = push_body(strip, a, lsa[3], lsa[4], body, start);
     match pushed {
-        Body::Decoded { at, consumed } => push_unparsed(strip, at, UNPARSED, body, consumed, start),
-        Body::Raw => push_unparsed(strip, a, BODY, body, 0, start),
+        Body::Decoded { at, consumed } => push_unparsed(
+            strip,
+            at,
+            v2::UNPARSED,
+            body,
+            consumed,
+            start,
+        ),
+        Body::Raw => push_unparsed(strip, a, v2::BODY, body, 0, start),
     }
 }
 
@@ -74,8 +72,8 @@ fn push_network_lsa(strip: &mut [u8], at: usize, body: &[u8], o: u32) -> Body
     if body.len() < 4 {
         return Body::Raw;
     }
-    let a = push_ipv4_at(strip, at, NETWORK_MASK, body, 0, o);
-    let routers = push_attached_routers(strip, a, ATTACHED_ROUTERS, body, o);
+    let a = push_ipv4_at(strip, at, v2::NETWORK_MASK, body, 0, o);
+    let routers = push_attached_routers(strip, a, v2::ATTACHED_ROUTERS, body, o);
     Body::Decoded {
         at: routers.at,
         consumed: routers.end,
@@ -100,7 +98,7 @@ fn push_opaque_lsa(strip: &mut [u8], at: usize, opaque_type: u8, body: &[u8], o:
 {
     if opaque_has_tlvs(opaque_type) {
         let n = body.len();
-        let a = push_bytes(strip, at, TLVS, o, o + n as u32);
+        let a = push_bytes(strip, at, v2::TLVS, o, o + n as u32);
         Body::Decoded { at: a, consumed: n }
     } else {
         Body::Raw

@@ -7,20 +7,18 @@ ghost use Rattle.format.specs.Strip.{encode};
 ghost use Rattle.format.specs.V2.{body2, lsaEntries2, lsaTail2, networkLsa2, opaqueLsa};
 ghost use Rattle.body.specs.Answers.{measuredOf};
 use crate::opaque_has_tlvs;
-use body::Body;
 use body::Lsa;
+use body::Measured;
 use body::bytes_from;
 use body::measure_attached_routers;
 use body::measure_unparsed;
 use header::LsaHeader;
 use header::v2::measure_lsa_header_fields;
-use v2_router::measure::IPV4;
+use strip_push::BYTES_LENGTH;
+use strip_push::IPV4_LENGTH;
 use v2_router::measure::measure_router_lsa;
 use v2_routes::measure::measure_external_lsa;
 use v2_routes::measure::measure_summary_lsa;
-
-// The length of an entry of bytes.
-const BYTES: usize = 10;
 
 // A whole LSA, and how many of its bytes stay unparsed.
 pub fn measure_lsa(lsa: &[u8]) -> Lsa
@@ -33,14 +31,14 @@ pub fn measure_lsa(lsa: &[u8]) -> Lsa
     let body = &lsa[LsaHeader::SIZE..];
     let measured = measure_body(lsa[3], lsa[4], body);
     match measured {
-        Body::Decoded { at, consumed } => {
+        Measured::Decoded { length, consumed } => {
             let rest = measure_unparsed(body, consumed);
             Lsa {
-                length: fields + at + rest,
+                length: fields + length + rest,
                 tail: bytes_from(body, consumed),
             }
         }
-        Body::Raw => {
+        Measured::Raw => {
             let rest = measure_unparsed(body, 0);
             Lsa {
                 length: fields + rest,
@@ -50,7 +48,7 @@ pub fn measure_lsa(lsa: &[u8]) -> Lsa
     }
 }
 
-fn measure_body(ls_type: u8, opaque_type: u8, body: &[u8]) -> Body
+fn measure_body(ls_type: u8, opaque_type: u8, body: &[u8]) -> Measured
     requires { ⌜ length (now body) < 65536 ⌝ }
     ensures { λ r. ⌜ ((o : ℕ) → r ≡ measuredOf (body2 «ls_type» «opaque_type» (now (body .entry)) o)) ⌝ }
 {
@@ -60,33 +58,33 @@ fn measure_body(ls_type: u8, opaque_type: u8, body: &[u8]) -> Body
         3 | 4 => measure_summary_lsa(body),
         5 | 7 => measure_external_lsa(body),
         9..=11 => measure_opaque_lsa(opaque_type, body),
-        _ => Body::Raw,
+        _ => Measured::Raw,
     }
 }
 
-fn measure_network_lsa(body: &[u8]) -> Body
+fn measure_network_lsa(body: &[u8]) -> Measured
     requires { ⌜ length (now body) < 65536 ⌝ }
     ensures { λ r. ⌜ ((o : ℕ) → r ≡ measuredOf (networkLsa2 (now (body .entry)) o)) ⌝ }
 {
     if body.len() < 4 {
-        return Body::Raw;
+        return Measured::Raw;
     }
     let routers = measure_attached_routers(body);
-    Body::Decoded {
-        at: IPV4 + routers.at,
+    Measured::Decoded {
+        length: IPV4_LENGTH + routers.length,
         consumed: routers.end,
     }
 }
 
-fn measure_opaque_lsa(opaque_type: u8, body: &[u8]) -> Body
+fn measure_opaque_lsa(opaque_type: u8, body: &[u8]) -> Measured
     ensures { λ r. ⌜ ((o : ℕ) → r ≡ measuredOf (opaqueLsa «opaque_type» (now (body .entry)) o)) ⌝ }
 {
     if opaque_has_tlvs(opaque_type) {
-        Body::Decoded {
-            at: BYTES,
+        Measured::Decoded {
+            length: BYTES_LENGTH,
             consumed: body.len(),
         }
     } else {
-        Body::Raw
+        Measured::Raw
     }
 }

@@ -1,5 +1,5 @@
 // The Router-LSA of version 2 into a strip, with its links and their TOS metrics: RFC 2328 A.4.2, and RFC 3101 for the Nt
-// bit. Here too are the ids of the fields that other LSAs of version 2 share with it.
+// bit.
 ghost use mathlib.Core.Path.{_≡_};
 ghost use mathlib.Core.Option.{some};
 ghost use mathlib.Core.List.{flatMap};
@@ -9,15 +9,19 @@ ghost use Rattle.format.specs.Strip.{code, encode, wide16At};
 ghost use Rattle.format.specs.Wrote.{Wrote};
 ghost use Rattle.format.specs.Cut.{cut, after, linkRule, fixedRule};
 ghost use Rattle.format.specs.Body.{listing, listingIfAny};
-ghost use Rattle.format.specs.V2.{link, linkFields, linkTos, linkTosSpans, links, routerFlags, routerLsa2};
+ghost use Rattle.format.specs.V2.{link, linkFields, linkTos, linkTosSpans, links, routerLsa2};
 ghost use Rattle.body.specs.Answers.{Pushed, bytesOf};
 ghost use Rattle.util.specs.Answers.{lengthOf};
 use body::Body;
 use body::Listed;
+use body::push_router_flags;
+use strip_ids::LINK;
+use strip_ids::TOS_METRIC_OR_PREFIX;
+use strip_ids::v2;
+use strip_push::OPEN_LENGTH;
 use strip_push::begin_container;
 use strip_push::begin_container_at;
 use strip_push::end_container;
-use strip_push::push_bit_at;
 use strip_push::push_ipv4_at;
 use strip_push::push_u8_at;
 use strip_push::push_u16_at;
@@ -27,48 +31,7 @@ use util::read_be_u16;
 
 pub mod measure;
 
-// Ids of an LSA's fields, after those of its header.
-const FLAGS: u8 = 10;
-
-const FLAG_NT: u8 = 11;
-
-const FLAG_V: u8 = 12;
-
-pub const FLAG_E: u8 = 13;
-
-const FLAG_B: u8 = 14;
-
-const NUM_LINKS: u8 = 15;
-
-const LINKS: u8 = 16;
-
-// Ids of a link's fields.
-const LINK_ID: u8 = 64;
-
-const LINK_DATA: u8 = 65;
-
-const LINK_TYPE: u8 = 66;
-
-const NUM_TOS: u8 = 67;
-
-const LINK_METRIC: u8 = 68;
-
-const LINK_TOS_METRICS: u8 = 69;
-
-// Ids of a TOS metric's fields.
-pub const TOS: u8 = 81;
-
-pub const TOS_METRIC: u8 = 82;
-
-// Ids of the objects in arrays.
-const LINK: u8 = 96;
-
-pub const TOS_ENTRY: u8 = 97;
-
-// The length of the entry that opens a container.
-const OPEN_LENGTH: usize = 10;
-
-// A link without its TOS metrics.
+// The bytes of a link without its TOS metrics.
 const LINK_SIZE: usize = 12;
 
 // RFC 2328 A.4.2: flags, 0, # links, links.
@@ -80,26 +43,13 @@ pub fn push_router_lsa(strip: &mut [u8], at: usize, body: &[u8], o: u32) -> Body
     if body.len() < 4 {
         return Body::Raw;
     }
-    let a = push_router_flags(strip, at, body, o);
-    let b = push_u16_at(strip, a, NUM_LINKS, body, 2, o);
+    let a = push_router_flags(strip, at, v2::FLAGS, body, o);
+    let b = push_u16_at(strip, a, v2::NUM_LINKS, body, 2, o);
     let links = push_links_array(strip, b, body, o);
     Body::Decoded {
         at: links.at,
         consumed: links.end,
     }
-}
-
-fn push_router_flags(strip: &mut [u8], at: usize, body: &[u8], o: u32) -> usize
-    requires { ⌜ at + 55 ≤ length (now strip) ⌝ }
-    requires { ⌜ 4 ≤ length (now body) ⌝ }
-    requires { ⌜ o + length (now body) < 4294967296 ⌝ }
-    ensures { λ r. ⌜ Wrote (now (strip .entry)) at (encode (routerFlags (now (body .entry)) o)) (now (strip .exit)) r ⌝ }
-{
-    let a = push_u8_at(strip, at, FLAGS, body, 0, o);
-    let b = push_bit_at(strip, a, FLAG_NT, body, 0, o, 0x10);
-    let c = push_bit_at(strip, b, FLAG_V, body, 0, o, 0x04);
-    let d = push_bit_at(strip, c, FLAG_E, body, 0, o, 0x02);
-    push_bit_at(strip, d, FLAG_B, body, 0, o, 0x01)
 }
 
 // The array of links. Where it ends is known once they are pushed, so it is opened after that.
@@ -113,7 +63,7 @@ fn push_links_array(strip: &mut [u8], at: usize, body: &[u8], o: u32) -> Listed
     let count = read_be_u16(body, 2);
     let links = push_links(strip, at + OPEN_LENGTH, body, o, count);
     let end = links.end;
-    begin_container(strip, at, LINKS, o + 4, o + end as u32);
+    begin_container(strip, at, v2::LINKS, o + 4, o + end as u32);
     let a = end_container(strip, links.at);
     Listed { at: a, end }
 }
@@ -175,16 +125,16 @@ fn push_link(strip: &mut [u8], at: usize, body: &[u8], p: usize, n: usize, o: u3
 }
 
 fn push_link_fields(strip: &mut [u8], at: usize, body: &[u8], p: usize, o: u32) -> usize
-    requires { ⌜ at + 62 ≤ length (now strip) ⌝ }
+    requires { ⌜ at + length (encode (linkFields (now body) o p)) ≤ length (now strip) ⌝ }
     requires { ⌜ p + 12 ≤ length (now body) ⌝ }
     requires { ⌜ o + length (now body) < 4294967296 ⌝ }
     ensures { λ r. ⌜ Wrote (now (strip .entry)) at (encode (linkFields (now (body .entry)) o p)) (now (strip .exit)) r ⌝ }
 {
-    let a = push_ipv4_at(strip, at, LINK_ID, body, p, o);
-    let b = push_ipv4_at(strip, a, LINK_DATA, body, p + 4, o);
-    let c = push_u8_at(strip, b, LINK_TYPE, body, p + 8, o);
-    let d = push_u8_at(strip, c, NUM_TOS, body, p + 9, o);
-    push_u16_at(strip, d, LINK_METRIC, body, p + 10, o)
+    let a = push_ipv4_at(strip, at, v2::LINK_ID, body, p, o);
+    let b = push_ipv4_at(strip, a, v2::LINK_DATA, body, p + 4, o);
+    let c = push_u8_at(strip, b, v2::LINK_TYPE, body, p + 8, o);
+    let d = push_u8_at(strip, c, v2::NUM_TOS, body, p + 9, o);
+    push_u16_at(strip, d, v2::LINK_METRIC, body, p + 10, o)
 }
 
 // The TOS metrics of the link at p, if it has any.
@@ -203,7 +153,7 @@ fn push_link_tos_metrics(strip: &mut [u8], at: usize, body: &[u8], p: usize, o: 
     let a = begin_container(
         strip,
         at,
-        LINK_TOS_METRICS,
+        v2::LINK_TOS_METRICS,
         o + first as u32,
         o + end as u32,
     );
@@ -236,7 +186,7 @@ fn push_link_tos_entries(
 }
 
 fn push_link_tos_entry(strip: &mut [u8], at: usize, body: &[u8], p: usize, o: u32) -> usize
-    requires { ⌜ at + 36 ≤ length (now strip) ⌝ }
+    requires { ⌜ at + length (encode (linkTos (now body) o (record { at = p; len = 4 }))) ≤ length (now strip) ⌝ }
     requires { ⌜ p + 4 ≤ length (now body) ⌝ }
     requires { ⌜ o + length (now body) < 4294967296 ⌝ }
     ensures { λ r. ⌜ Wrote (now (strip .entry)) at (encode (linkTos (now (body .entry)) o (record { at = p; len = 4 }))) (now (strip .exit)) r ⌝ }
@@ -246,23 +196,23 @@ fn push_link_tos_entry(strip: &mut [u8], at: usize, body: &[u8], p: usize, o: u3
 }
 
 fn push_tos_entry(strip: &mut [u8], at: usize, tos: &[u8], o: u32) -> usize
-    requires { ⌜ at + 36 ≤ length (now strip) ⌝ }
+    requires { ⌜ at + length (encode (linkTos (now tos) o (record { at = 0; len = 4 }))) ≤ length (now strip) ⌝ }
     requires { ⌜ 4 ≤ length (now tos) ⌝ }
     requires { ⌜ o + length (now tos) < 4294967296 ⌝ }
     ensures { λ r. ⌜ Wrote (now (strip .entry)) at (encode (linkTos (now (tos .entry)) o (record { at = 0; len = 4 }))) (now (strip .exit)) r ⌝ }
 {
-    let a = begin_container_at(strip, at, TOS_ENTRY, 0, 4, o);
-    let b = push_u8_at(strip, a, TOS, tos, 0, o);
+    let a = begin_container_at(strip, at, TOS_METRIC_OR_PREFIX, 0, 4, o);
+    let b = push_u8_at(strip, a, v2::TOS, tos, 0, o);
     let c = push_link_tos_metric(strip, b, tos, 0, o);
     end_container(strip, c)
 }
 
 // The metric in a link's TOS entry has 16 bits, after a byte of 0; those of other LSAs have 24.
 fn push_link_tos_metric(strip: &mut [u8], at: usize, body: &[u8], p: usize, o: u32) -> usize
-    requires { ⌜ at + 14 ≤ length (now strip) ⌝ }
+    requires { ⌜ at + length (code (wide16At 82 (now body) o (p + 2))) ≤ length (now strip) ⌝ }
     requires { ⌜ p + 4 ≤ length (now body) ⌝ }
     requires { ⌜ o + length (now body) < 4294967296 ⌝ }
     ensures { λ r. ⌜ Wrote (now (strip .entry)) at (code (wide16At 82 (now (body .entry)) o (p + 2))) (now (strip .exit)) r ⌝ }
 {
-    push_wide16_at(strip, at, TOS_METRIC, body, p + 2, o)
+    push_wide16_at(strip, at, v2::TOS_METRIC, body, p + 2, o)
 }

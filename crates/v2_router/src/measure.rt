@@ -10,43 +10,45 @@ ghost use Rattle.format.specs.Body.{listingIfAny};
 ghost use Rattle.format.specs.V2.{link, routerLsa2};
 ghost use Rattle.body.specs.Answers.{measuredOf};
 use crate::link_fits;
-use body::Body;
-use body::Listed;
+use body::Measured;
+use body::MeasuredList;
+use body::ROUTER_FLAGS_LENGTH;
+use strip_push::CONTAINER_LENGTH;
+use strip_push::IPV4_LENGTH;
+use strip_push::U8_LENGTH;
+use strip_push::U16_LENGTH;
+use strip_push::U32_LENGTH;
 use util::Length;
 use util::read_be_u16;
 
-// The lengths of entries by kind, and of a container without what is inside.
-pub const U8: usize = 11;
+// What `push_router_lsa`, `push_link` and `push_link_tos_entry` write, each without the array in it.
+const ROUTER_LENGTH: usize = ROUTER_FLAGS_LENGTH + U16_LENGTH + CONTAINER_LENGTH;
 
-const U16: usize = 12;
+const LINK_LENGTH: usize = CONTAINER_LENGTH + 2 * IPV4_LENGTH + 2 * U8_LENGTH + U16_LENGTH;
 
-pub const U32: usize = 14;
+const LINK_TOS_LENGTH: usize = CONTAINER_LENGTH + U8_LENGTH + U32_LENGTH;
 
-pub const IPV4: usize = 14;
-
-pub const CONTAINER: usize = 11;
-
-pub fn measure_router_lsa(body: &[u8]) -> Body
+pub fn measure_router_lsa(body: &[u8]) -> Measured
     requires { ⌜ length (now body) < 65536 ⌝ }
     ensures { λ r. ⌜ ((o : ℕ) → r ≡ measuredOf (routerLsa2 (now (body .entry)) o)) ⌝ }
 {
     if body.len() < 4 {
-        return Body::Raw;
+        return Measured::Raw;
     }
     let count = read_be_u16(body, 2);
     let links = measure_links(body, count);
-    Body::Decoded {
-        at: U8 * 5 + U16 + CONTAINER + links.at,
+    Measured::Decoded {
+        length: ROUTER_LENGTH + links.length,
         consumed: links.end,
     }
 }
 
-fn measure_links(body: &[u8], count: u16) -> Listed
+fn measure_links(body: &[u8], count: u16) -> MeasuredList
     requires { ⌜ 4 ≤ length (now body) ⌝ }
     requires { ⌜ length (now body) < 65536 ⌝ }
-    ensures { λ r. ⌜ ((o : ℕ) → r .at ≡ length (encode (flatMap (link (now (body .entry)) o) (cut linkRule (now (body .entry)) count 4)))) ⌝ }
+    ensures { λ r. ⌜ ((o : ℕ) → r .length ≡ length (encode (flatMap (link (now (body .entry)) o) (cut linkRule (now (body .entry)) count 4)))) ⌝ }
     ensures { λ r. ⌜ r .end ≡ after 4 (cut linkRule (now (body .entry)) count 4) ⌝ }
-    ensures { λ r. ⌜ r .at ≤ 9 * length (now (body .entry)) ⌝ }
+    ensures { λ r. ⌜ r .length ≤ 9 * length (now (body .entry)) ⌝ }
 {
     let mut total: usize = 0;
     let mut pos: usize = 4;
@@ -62,7 +64,7 @@ fn measure_links(body: &[u8], count: u16) -> Listed
         pos = pos + n;
         left = left - 1;
     };
-    Listed { at: total, end }
+    MeasuredList { length: total, end }
 }
 
 fn measure_link(body: &[u8], p: usize) -> usize
@@ -72,8 +74,8 @@ fn measure_link(body: &[u8], p: usize) -> usize
     ensures { λ r. ⌜ r ≤ 9 * (12 + getD (now (body .entry)) (p + 9) 0 * 4) ⌝ }
 {
     let num_tos = body[p + 9] as usize;
-    let metrics = measure_tos_metrics(num_tos, CONTAINER + U8 + U32);
-    CONTAINER + IPV4 * 2 + U8 * 2 + U16 + metrics
+    let metrics = measure_tos_metrics(num_tos, LINK_TOS_LENGTH);
+    LINK_LENGTH + metrics
 }
 
 // An array of TOS metrics, as many as the count and each of the same length, if there are any.
@@ -86,6 +88,6 @@ pub fn measure_tos_metrics(count: usize, entry: usize) -> usize
     if count == 0 {
         0
     } else {
-        CONTAINER + count * entry
+        CONTAINER_LENGTH + count * entry
     }
 }

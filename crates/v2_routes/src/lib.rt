@@ -12,6 +12,8 @@ ghost use Rattle.format.specs.V2.{externalFields, externalLsa2, externalTos, ex
 ghost use Rattle.body.specs.Answers.{Pushed, bytesOf};
 use body::Body;
 use body::Listed;
+use strip_ids::TOS_METRIC_OR_PREFIX;
+use strip_ids::v2;
 use strip_push::begin_container;
 use strip_push::end_container;
 use strip_push::push_bit_at;
@@ -20,30 +22,8 @@ use strip_push::push_low_bits_at;
 use strip_push::push_metric24_at;
 use strip_push::push_u8_at;
 use strip_push::push_u32_at;
-use v2_router::FLAG_E;
-use v2_router::TOS;
-use v2_router::TOS_ENTRY;
-use v2_router::TOS_METRIC;
 
 pub mod measure;
-
-// Ids of an LSA's fields, beside those of a Router-LSA.
-pub const NETWORK_MASK: u8 = 17;
-
-const METRIC: u8 = 19;
-
-const TOS_METRICS: u8 = 20;
-
-const FORWARDING_ADDRESS: u8 = 21;
-
-const EXTERNAL_ROUTE_TAG: u8 = 22;
-
-// Ids of a TOS metric's fields, beside those that a link's has.
-const TOS_FLAG_E: u8 = 80;
-
-const TOS_FORWARDING_ADDRESS: u8 = 83;
-
-const TOS_EXTERNAL_ROUTE_TAG: u8 = 84;
 
 // RFC 2328 A.4.4, types 3 and 4: Network Mask, 0, metric, TOS metrics.
 pub fn push_summary_lsa(strip: &mut [u8], at: usize, body: &[u8], o: u32) -> Body
@@ -54,8 +34,8 @@ pub fn push_summary_lsa(strip: &mut [u8], at: usize, body: &[u8], o: u32) -> Bod
     if body.len() < 8 {
         return Body::Raw;
     }
-    let a = push_ipv4_at(strip, at, NETWORK_MASK, body, 0, o);
-    let b = push_metric24_at(strip, a, METRIC, body, 5, o);
+    let a = push_ipv4_at(strip, at, v2::NETWORK_MASK, body, 0, o);
+    let b = push_metric24_at(strip, a, v2::METRIC, body, 5, o);
     let metrics = push_summary_tos_metrics(strip, b, body, o);
     Body::Decoded {
         at: metrics.at,
@@ -76,7 +56,7 @@ fn push_summary_tos_metrics(strip: &mut [u8], at: usize, body: &[u8], o: u32) ->
         return Listed { at, end: 8 };
     }
     let end = 8 + count * 4;
-    let a = begin_container(strip, at, TOS_METRICS, o + 8, o + end as u32);
+    let a = begin_container(strip, at, v2::TOS_METRICS, o + 8, o + end as u32);
     let b = push_summary_tos_entries(strip, a, body, o, count);
     let c = end_container(strip, b);
     Listed { at: c, end }
@@ -100,15 +80,15 @@ fn push_summary_tos_entries(strip: &mut [u8], at: usize, body: &[u8], o: u32, co
 }
 
 fn push_summary_tos_entry(strip: &mut [u8], at: usize, body: &[u8], p: usize, o: u32) -> usize
-    requires { ⌜ at + 36 ≤ length (now strip) ⌝ }
+    requires { ⌜ at + length (encode (summaryTos (now body) o (record { at = p; len = 4 }))) ≤ length (now strip) ⌝ }
     requires { ⌜ p + 4 ≤ length (now body) ⌝ }
     requires { ⌜ o + length (now body) < 4294967296 ⌝ }
     ensures { λ r. ⌜ Wrote (now (strip .entry)) at (encode (summaryTos (now (body .entry)) o (record { at = p; len = 4 }))) (now (strip .exit)) r ⌝ }
 {
     let start = o + p as u32;
-    let a = begin_container(strip, at, TOS_ENTRY, start, start + 4);
-    let b = push_u8_at(strip, a, TOS, body, p, o);
-    let c = push_metric24_at(strip, b, TOS_METRIC, body, p + 1, o);
+    let a = begin_container(strip, at, TOS_METRIC_OR_PREFIX, start, start + 4);
+    let b = push_u8_at(strip, a, v2::TOS, body, p, o);
+    let c = push_metric24_at(strip, b, v2::TOS_METRIC, body, p + 1, o);
     end_container(strip, c)
 }
 
@@ -130,16 +110,16 @@ pub fn push_external_lsa(strip: &mut [u8], at: usize, body: &[u8], o: u32) -> Bo
 }
 
 fn push_external_fields(strip: &mut [u8], at: usize, body: &[u8], o: u32) -> usize
-    requires { ⌜ at + 67 ≤ length (now strip) ⌝ }
+    requires { ⌜ at + length (encode (externalFields (now body) o)) ≤ length (now strip) ⌝ }
     requires { ⌜ 16 ≤ length (now body) ⌝ }
     requires { ⌜ o + length (now body) < 4294967296 ⌝ }
     ensures { λ r. ⌜ Wrote (now (strip .entry)) at (encode (externalFields (now (body .entry)) o)) (now (strip .exit)) r ⌝ }
 {
-    let a = push_ipv4_at(strip, at, NETWORK_MASK, body, 0, o);
-    let b = push_bit_at(strip, a, FLAG_E, body, 4, o, 0x80);
-    let c = push_metric24_at(strip, b, METRIC, body, 5, o);
-    let d = push_ipv4_at(strip, c, FORWARDING_ADDRESS, body, 8, o);
-    push_u32_at(strip, d, EXTERNAL_ROUTE_TAG, body, 12, o)
+    let a = push_ipv4_at(strip, at, v2::NETWORK_MASK, body, 0, o);
+    let b = push_bit_at(strip, a, v2::FLAG_E, body, 4, o, 0x80);
+    let c = push_metric24_at(strip, b, v2::METRIC, body, 5, o);
+    let d = push_ipv4_at(strip, c, v2::FORWARDING_ADDRESS, body, 8, o);
+    push_u32_at(strip, d, v2::EXTERNAL_ROUTE_TAG, body, 12, o)
 }
 
 // The TOS metrics of an external LSA, as many as its body holds from 16 on, if there are any.
@@ -155,7 +135,7 @@ fn push_external_tos_metrics(strip: &mut [u8], at: usize, body: &[u8], o: u32) -
         return Listed { at, end: 16 };
     }
     let end = 16 + count * 12;
-    let a = begin_container(strip, at, TOS_METRICS, o + 16, o + end as u32);
+    let a = begin_container(strip, at, v2::TOS_METRICS, o + 16, o + end as u32);
     let b = push_external_tos_entries(strip, a, body, o, count);
     let c = end_container(strip, b);
     Listed { at: c, end }
@@ -185,27 +165,27 @@ fn push_external_tos_entries(
 }
 
 fn push_external_tos_entry(strip: &mut [u8], at: usize, body: &[u8], p: usize, o: u32) -> usize
-    requires { ⌜ at + 75 ≤ length (now strip) ⌝ }
+    requires { ⌜ at + length (encode (externalTos (now body) o (record { at = p; len = 12 }))) ≤ length (now strip) ⌝ }
     requires { ⌜ p + 12 ≤ length (now body) ⌝ }
     requires { ⌜ o + length (now body) < 4294967296 ⌝ }
     ensures { λ r. ⌜ Wrote (now (strip .entry)) at (encode (externalTos (now (body .entry)) o (record { at = p; len = 12 }))) (now (strip .exit)) r ⌝ }
 {
     let start = o + p as u32;
-    let a = begin_container(strip, at, TOS_ENTRY, start, start + 12);
+    let a = begin_container(strip, at, TOS_METRIC_OR_PREFIX, start, start + 12);
     let b = push_external_tos_fields(strip, a, body, p, o);
     end_container(strip, b)
 }
 
 // The E bit and the TOS are in one byte.
 fn push_external_tos_fields(strip: &mut [u8], at: usize, body: &[u8], p: usize, o: u32) -> usize
-    requires { ⌜ at + 64 ≤ length (now strip) ⌝ }
+    requires { ⌜ at + length (encode (externalTosFields (now body) o p)) ≤ length (now strip) ⌝ }
     requires { ⌜ p + 12 ≤ length (now body) ⌝ }
     requires { ⌜ o + length (now body) < 4294967296 ⌝ }
     ensures { λ r. ⌜ Wrote (now (strip .entry)) at (encode (externalTosFields (now (body .entry)) o p)) (now (strip .exit)) r ⌝ }
 {
-    let a = push_bit_at(strip, at, TOS_FLAG_E, body, p, o, 0x80);
-    let b = push_low_bits_at(strip, a, TOS, body, p, o, 0x80);
-    let c = push_metric24_at(strip, b, TOS_METRIC, body, p + 1, o);
-    let d = push_ipv4_at(strip, c, TOS_FORWARDING_ADDRESS, body, p + 4, o);
-    push_u32_at(strip, d, TOS_EXTERNAL_ROUTE_TAG, body, p + 8, o)
+    let a = push_bit_at(strip, at, v2::TOS_FLAG_E, body, p, o, 0x80);
+    let b = push_low_bits_at(strip, a, v2::TOS, body, p, o, 0x80);
+    let c = push_metric24_at(strip, b, v2::TOS_METRIC, body, p + 1, o);
+    let d = push_ipv4_at(strip, c, v2::TOS_FORWARDING_ADDRESS, body, p + 4, o);
+    push_u32_at(strip, d, v2::TOS_EXTERNAL_ROUTE_TAG, body, p + 8, o)
 }

@@ -4,39 +4,48 @@ ghost use Prim.Native.Nat.{ℕ, _<_};
 ghost use lib.ListN.{length};
 ghost use Rattle.format.specs.V2.{externalLsa2, summaryLsa};
 ghost use Rattle.body.specs.Answers.{measuredOf};
-use body::Body;
-use v2_router::measure::CONTAINER;
-use v2_router::measure::IPV4;
-use v2_router::measure::U8;
-use v2_router::measure::U32;
+use body::Measured;
+use strip_push::CONTAINER_LENGTH;
+use strip_push::IPV4_LENGTH;
+use strip_push::U8_LENGTH;
+use strip_push::U32_LENGTH;
 use v2_router::measure::measure_tos_metrics;
 
-pub fn measure_summary_lsa(body: &[u8]) -> Body
+// What a Summary-LSA and an external LSA have before their TOS metrics, and a TOS metric of each.
+const SUMMARY_LENGTH: usize = IPV4_LENGTH + U32_LENGTH;
+
+const SUMMARY_TOS_LENGTH: usize = CONTAINER_LENGTH + U8_LENGTH + U32_LENGTH;
+
+const EXTERNAL_LENGTH: usize = 2 * IPV4_LENGTH + U8_LENGTH + 2 * U32_LENGTH;
+
+const EXTERNAL_TOS_LENGTH: usize = CONTAINER_LENGTH + 2 * U8_LENGTH + 2 * U32_LENGTH + IPV4_LENGTH;
+
+pub fn measure_summary_lsa(body: &[u8]) -> Measured
     requires { ⌜ length (now body) < 65536 ⌝ }
     ensures { λ r. ⌜ ((o : ℕ) → r ≡ measuredOf (summaryLsa (now (body .entry)) o)) ⌝ }
 {
     if body.len() < 8 {
-        return Body::Raw;
+        return Measured::Raw;
     }
     let count = (body.len() - 8) / 4;
-    let metrics = measure_tos_metrics(count, CONTAINER + U8 + U32);
-    Body::Decoded {
-        at: IPV4 + U32 + metrics,
+    let metrics = measure_tos_metrics(count, SUMMARY_TOS_LENGTH);
+    Measured::Decoded {
+        length: SUMMARY_LENGTH + metrics,
         consumed: 8 + count * 4,
     }
 }
 
-pub fn measure_external_lsa(body: &[u8]) -> Body
+pub fn measure_external_lsa(body: &[u8]) -> Measured
     requires { ⌜ length (now body) < 65536 ⌝ }
     ensures { λ r. ⌜ ((o : ℕ) → r ≡ measuredOf (externalLsa2 (now (body .entry)) o)) ⌝ }
 {
     if body.len() < 16 {
-        return Body::Raw;
+        return Measured::Raw;
     }
     let count = (body.len() - 16) / 12;
-    let metrics = measure_tos_metrics(count, CONTAINER + U8 * 2 + U32 * 2 + IPV4);
-    Body::Decoded {
-        at: IPV4 * 2 + U8 + U32 * 2 + metrics,
+    let metrics = measure_tos_metrics(count, EXTERNAL_TOS_LENGTH);
+    Measured::Decoded {
+        length: EXTERNAL_LENGTH + metrics,
         consumed: 16 + count * 12,
     }
 }

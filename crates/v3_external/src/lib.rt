@@ -7,6 +7,7 @@ ghost use Rattle.format.specs.V3.{hasForwarding, hasTag, hasReference, tagPlace
 ghost use Rattle.format.specs.Wrote.{Wrote};
 ghost use Rattle.body.specs.Answers.{bytesOf, Pushed};
 use body::Body;
+use strip_ids::v3;
 use strip_push::push_bit_at;
 use strip_push::push_ipv6_at;
 use strip_push::push_metric24_at;
@@ -15,29 +16,10 @@ use strip_push::push_u16_at;
 use strip_push::push_u32_at;
 use util::Length;
 use util::read_be_u16;
-use v3_prefix::METRIC;
-use v3_prefix::PREFIX;
-use v3_prefix::PREFIX_LENGTH;
-use v3_prefix::PREFIX_OPTIONS;
-use v3_prefix::REFERENCED_LINK_STATE_ID;
-use v3_prefix::REFERENCED_LS_TYPE;
 use v3_prefix::fixed_prefix_fits;
 use v3_prefix::present;
 
 pub mod measure;
-
-// Field ids of an LSA after those of its header.
-pub const FLAGS: u8 = 7;
-
-pub const FLAG_E: u8 = 10;
-
-const FLAG_F: u8 = 12;
-
-const FLAG_T: u8 = 13;
-
-const FORWARDING_ADDRESS: u8 = 23;
-
-const EXTERNAL_ROUTE_TAG: u8 = 24;
 
 // AS-External-LSA and NSSA-LSA: flags, Metric, prefix, and the optional parts (RFC 5340 A.4.7, A.4.8).
 pub fn push_external_lsa(strip: &mut [u8], at: usize, body: &[u8], o: u32) -> Body
@@ -114,30 +96,30 @@ fn external_end(body: &[u8], n: usize) -> usize
 
 // The bits E, F and T.
 fn push_external_flags(strip: &mut [u8], at: usize, body: &[u8], o: u32) -> usize
-    requires { ⌜ at + 44 ≤ length (now strip) ⌝ }
+    requires { ⌜ at + length (encode (externalFlags (now body) o)) ≤ length (now strip) ⌝ }
     requires { ⌜ 8 ≤ length (now body) ⌝ }
     requires { ⌜ o + length (now body) < 4294967296 ⌝ }
     ensures { λ r. ⌜ Wrote (now (strip .entry)) at (encode (externalFlags (now (body .entry)) o)) (now (strip .exit)) r ⌝ }
 {
-    let a = push_u8_at(strip, at, FLAGS, body, 0, o);
-    let b = push_bit_at(strip, a, FLAG_E, body, 0, o, 0x04);
-    let c = push_bit_at(strip, b, FLAG_F, body, 0, o, 0x02);
-    push_bit_at(strip, c, FLAG_T, body, 0, o, 0x01)
+    let a = push_u8_at(strip, at, v3::FLAGS, body, 0, o);
+    let b = push_bit_at(strip, a, v3::FLAG_E, body, 0, o, 0x04);
+    let c = push_bit_at(strip, b, v3::FLAG_F, body, 0, o, 0x02);
+    push_bit_at(strip, c, v3::FLAG_T, body, 0, o, 0x01)
 }
 
 // Metric, PrefixLength, PrefixOptions, Referenced LS Type, and a prefix of n octets.
 fn push_external_prefix(strip: &mut [u8], at: usize, body: &[u8], n: usize, o: u32) -> usize
-    requires { ⌜ at + 74 ≤ length (now strip) ⌝ }
+    requires { ⌜ at + length (encode (externalPrefix (now body) o n)) ≤ length (now strip) ⌝ }
     requires { ⌜ 8 + n ≤ length (now body) ⌝ }
     requires { ⌜ n ≤ 16 ⌝ }
     requires { ⌜ o + length (now body) < 4294967296 ⌝ }
     ensures { λ r. ⌜ Wrote (now (strip .entry)) at (encode (externalPrefix (now (body .entry)) o n)) (now (strip .exit)) r ⌝ }
 {
-    let a = push_metric24_at(strip, at, METRIC, body, 1, o);
-    let b = push_u8_at(strip, a, PREFIX_LENGTH, body, 4, o);
-    let c = push_u8_at(strip, b, PREFIX_OPTIONS, body, 5, o);
-    let d = push_u16_at(strip, c, REFERENCED_LS_TYPE, body, 6, o);
-    push_ipv6_at(strip, d, PREFIX, body, 8, n, o)
+    let a = push_metric24_at(strip, at, v3::METRIC, body, 1, o);
+    let b = push_u8_at(strip, a, v3::PREFIX_LENGTH, body, 4, o);
+    let c = push_u8_at(strip, b, v3::PREFIX_OPTIONS, body, 5, o);
+    let d = push_u16_at(strip, c, v3::REFERENCED_LS_TYPE, body, 6, o);
+    push_ipv6_at(strip, d, v3::PREFIX, body, 8, n, o)
 }
 
 // Forwarding Address, External Route Tag and Referenced Link State ID, as present, in this order.
@@ -163,7 +145,7 @@ fn push_forwarding_address(strip: &mut [u8], at: usize, body: &[u8], n: usize, o
     ensures { λ r. ⌜ Wrote (now (strip .entry)) at (encode (forwardingAddress (now (body .entry)) o n)) (now (strip .exit)) r ⌝ }
 {
     if has_forwarding(body) {
-        push_ipv6_at(strip, at, FORWARDING_ADDRESS, body, 8 + n, 16, o)
+        push_ipv6_at(strip, at, v3::FORWARDING_ADDRESS, body, 8 + n, 16, o)
     } else {
         at
     }
@@ -179,7 +161,7 @@ fn push_external_route_tag(strip: &mut [u8], at: usize, body: &[u8], n: usize, o
 {
     let p = tag_place(body, n);
     if has_tag(body) {
-        push_u32_at(strip, at, EXTERNAL_ROUTE_TAG, body, p, o)
+        push_u32_at(strip, at, v3::EXTERNAL_ROUTE_TAG, body, p, o)
     } else {
         at
     }
@@ -201,7 +183,7 @@ fn push_referenced_link_state_id(
 {
     let p = reference_place(body, n);
     if has_reference(body) {
-        push_u32_at(strip, at, REFERENCED_LINK_STATE_ID, body, p, o)
+        push_u32_at(strip, at, v3::REFERENCED_LINK_STATE_ID, body, p, o)
     } else {
         at
     }

@@ -1,5 +1,4 @@
-// The lengths of what this crate's functions write, wherever the LSA lies: `measure_x` for `push_x`. The place in an
-// answer is counted from where the entries begin.
+// The lengths of what this crate's functions write, wherever the LSA lies: `measure_x` for `push_x`.
 ghost use mathlib.Core.Path.{_≡_};
 ghost use Prim.Native.Nat.{ℕ, _≤_, _<_};
 ghost use lib.ListN.{length};
@@ -10,33 +9,35 @@ use crate::external_end;
 use crate::has_forwarding;
 use crate::has_reference;
 use crate::has_tag;
-use body::Body;
+use body::Measured;
+use strip_push::IPV6_LENGTH;
+use strip_push::U8_LENGTH;
+use strip_push::U16_LENGTH;
+use strip_push::U32_LENGTH;
 use util::Length;
 use v3_prefix::fixed_prefix_fits;
 use v3_prefix::present;
 
-// An external up to its optional parts, and these.
-const EXTERNAL_FIXED: usize = 118;
+// What an external has before its optional parts: flags, and what follows them up to the prefix.
+const EXTERNAL_LENGTH: usize = 4 * U8_LENGTH
+    + U32_LENGTH
+    + 2 * U8_LENGTH
+    + U16_LENGTH
+    + IPV6_LENGTH;
 
-const FORWARDING_ADDRESS: usize = 26;
-
-const EXTERNAL_ROUTE_TAG: usize = 14;
-
-const REFERENCED_LINK_STATE_ID: usize = 14;
-
-pub fn measure_external_lsa(body: &[u8]) -> Body
+pub fn measure_external_lsa(body: &[u8]) -> Measured
     requires { ⌜ length (now body) < 65536 ⌝ }
     ensures { λ r. ⌜ ((o : ℕ) → r ≡ measuredOf (externalLsa3 (now (body .entry)) o)) ⌝ }
 {
     let Length::Bytes(n) = fixed_prefix_fits(body) else {
-        return Body::Raw;
+        return Measured::Raw;
     };
     let end = external_end(body, n);
     if body.len() < end {
-        return Body::Raw;
+        return Measured::Raw;
     }
-    Body::Decoded {
-        at: EXTERNAL_FIXED + measure_external_optional(body),
+    Measured::Decoded {
+        length: EXTERNAL_LENGTH + measure_external_optional(body),
         consumed: end,
     }
 }
@@ -45,8 +46,8 @@ fn measure_external_optional(body: &[u8]) -> usize
     requires { ⌜ 8 ≤ length (now body) ⌝ }
     ensures { λ r. ⌜ ((o n : ℕ) → r ≡ length (encode (externalOptional (now (body .entry)) o n))) ⌝ }
 {
-    let forwarding = present(has_forwarding(body), FORWARDING_ADDRESS);
-    let tag = present(has_tag(body), EXTERNAL_ROUTE_TAG);
-    let reference = present(has_reference(body), REFERENCED_LINK_STATE_ID);
+    let forwarding = present(has_forwarding(body), IPV6_LENGTH);
+    let tag = present(has_tag(body), U32_LENGTH);
+    let reference = present(has_reference(body), U32_LENGTH);
     forwarding + (tag + reference)
 }

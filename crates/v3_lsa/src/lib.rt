@@ -9,18 +9,20 @@ ghost use Rattle.format.specs.Body.Body.{decoded};
 ghost use Rattle.format.specs.Cut.{cut, after, fixedRule};
 ghost use Rattle.format.specs.Header.{headerSize};
 ghost use Rattle.format.specs.Strip.{encode};
-ghost use Rattle.format.specs.V3.{routerFlags, tlvs, linkFields, link, routerLsa3, networkLsa3, interAreaRouterLsa, eRouterLsa, eNetworkLsa, eLinkLsa, eIntraAreaPrefixLsa, body3, functionCode, lsaEntries3};
+ghost use Rattle.format.specs.V3.{tlvs, linkFields, link, routerLsa3, networkLsa3, interAreaRouterLsa, eRouterLsa, eNetworkLsa, eLinkLsa, eIntraAreaPrefixLsa, body3, functionCode, lsaEntries3};
 ghost use Rattle.format.specs.Wrote.{Wrote};
 ghost use Rattle.body.specs.Answers.{bytesOf, Pushed};
 use body::Body;
 use body::Listed;
 use body::push_attached_routers;
+use body::push_router_flags;
 use body::push_unparsed;
 use header::LsaHeader;
 use header::v3::push_lsa_header;
+use strip_ids::LINK;
+use strip_ids::v3;
 use strip_push::begin_container;
 use strip_push::end_container;
-use strip_push::push_bit_at;
 use strip_push::push_bytes;
 use strip_push::push_ipv4_at;
 use strip_push::push_metric24_at;
@@ -28,11 +30,7 @@ use strip_push::push_u8_at;
 use strip_push::push_u16_at;
 use strip_push::push_u32_at;
 use util::read_be_u16;
-use v3_external::FLAG_E;
-use v3_external::FLAGS;
 use v3_external::push_external_lsa;
-use v3_prefix::METRIC;
-use v3_prefix_lsa::ROUTER_PRIORITY;
 use v3_prefix_lsa::push_inter_area_prefix_lsa;
 use v3_prefix_lsa::push_intra_area_prefix_lsa;
 use v3_prefix_lsa::push_link_lsa;
@@ -40,38 +38,6 @@ use v3_prefix_lsa::push_options;
 use v3_prefix_lsa::push_references;
 
 pub mod measure;
-
-// Field ids of an LSA after those of its header.
-const FLAG_NT: u8 = 8;
-
-const FLAG_V: u8 = 9;
-
-const FLAG_B: u8 = 11;
-
-const LINKS: u8 = 15;
-
-const ATTACHED_ROUTERS: u8 = 16;
-
-const DESTINATION_ROUTER_ID: u8 = 21;
-
-const BODY: u8 = 31;
-
-const TLVS: u8 = 32;
-
-const UNPARSED: u8 = 33;
-
-// Field ids of a router's link, and the link itself.
-const LINK_TYPE: u8 = 64;
-
-const LINK_METRIC: u8 = 65;
-
-const INTERFACE_ID: u8 = 66;
-
-const NEIGHBOR_INTERFACE_ID: u8 = 67;
-
-const NEIGHBOR_ROUTER_ID: u8 = 68;
-
-const LINK: u8 = 96;
 
 // A whole LSA: its header, its body, and what is left of it.
 pub fn push_lsa(strip: &mut [u8], at: usize, lsa: &[u8], o: u32) -> usize
@@ -88,12 +54,12 @@ pub fn push_lsa(strip: &mut [u8], at: usize, lsa: &[u8], o: u32) -> usize
         Body::Decoded { at: b, consumed } => push_unparsed(
             strip,
             b,
-            UNPARSED,
+            v3::UNPARSED,
             body,
             consumed,
             start,
         ),
-        Body::Raw => push_unparsed(strip, a, BODY, body, 0, start),
+        Body::Raw => push_unparsed(strip, a, v3::BODY, body, 0, start),
     }
 }
 
@@ -128,29 +94,15 @@ fn push_body(strip: &mut [u8], at: usize, function: u16, body: &[u8], o: u32) ->
     }
 }
 
-// The bits Nt, V, E and B of a router (RFC 5340 A.4.3).
-fn push_router_flags(strip: &mut [u8], at: usize, body: &[u8], o: u32) -> usize
-    requires { ⌜ at + 55 ≤ length (now strip) ⌝ }
-    requires { ⌜ 4 ≤ length (now body) ⌝ }
-    requires { ⌜ o + length (now body) < 4294967296 ⌝ }
-    ensures { λ r. ⌜ Wrote (now (strip .entry)) at (encode (routerFlags (now (body .entry)) o)) (now (strip .exit)) r ⌝ }
-{
-    let a = push_u8_at(strip, at, FLAGS, body, 0, o);
-    let b = push_bit_at(strip, a, FLAG_NT, body, 0, o, 0x10);
-    let c = push_bit_at(strip, b, FLAG_V, body, 0, o, 0x04);
-    let d = push_bit_at(strip, c, FLAG_E, body, 0, o, 0x02);
-    push_bit_at(strip, d, FLAG_B, body, 0, o, 0x01)
-}
-
 // TLVs from p to the end of a body, which ends with them. They are not opened.
 fn push_tlv_body(strip: &mut [u8], at: usize, body: &[u8], p: usize, o: u32) -> Body
-    requires { ⌜ at + 10 ≤ length (now strip) ⌝ }
+    requires { ⌜ at + length (encode (tlvs (now body) o p)) ≤ length (now strip) ⌝ }
     requires { ⌜ p ≤ length (now body) ⌝ }
     requires { ⌜ o + length (now body) < 4294967296 ⌝ }
     ensures { λ r. ⌜ Pushed (decoded (tlvs (now (body .entry)) o p) (length (now (body .entry)))) (now (strip .entry)) at (now (strip .exit)) r ⌝ }
 {
     let n = body.len();
-    let a = push_bytes(strip, at, TLVS, o + p as u32, o + n as u32);
+    let a = push_bytes(strip, at, v3::TLVS, o + p as u32, o + n as u32);
     Body::Decoded { at: a, consumed: n }
 }
 
@@ -163,7 +115,7 @@ fn push_e_router_lsa(strip: &mut [u8], at: usize, body: &[u8], o: u32) -> Body
     if body.len() < 4 {
         return Body::Raw;
     }
-    let a = push_router_flags(strip, at, body, o);
+    let a = push_router_flags(strip, at, v3::FLAGS, body, o);
     let b = push_options(strip, a, body, o);
     push_tlv_body(strip, b, body, 4, o)
 }
@@ -190,7 +142,7 @@ fn push_e_link_lsa(strip: &mut [u8], at: usize, body: &[u8], o: u32) -> Body
     if body.len() < 4 {
         return Body::Raw;
     }
-    let a = push_u8_at(strip, at, ROUTER_PRIORITY, body, 0, o);
+    let a = push_u8_at(strip, at, v3::ROUTER_PRIORITY, body, 0, o);
     let b = push_options(strip, a, body, o);
     push_tlv_body(strip, b, body, 4, o)
 }
@@ -217,7 +169,7 @@ fn push_router_lsa(strip: &mut [u8], at: usize, body: &[u8], o: u32) -> Body
     if body.len() < 4 {
         return Body::Raw;
     }
-    let a = push_router_flags(strip, at, body, o);
+    let a = push_router_flags(strip, at, v3::FLAGS, body, o);
     let b = push_options(strip, a, body, o);
     let links = push_links(strip, b, body, o);
     Body::Decoded {
@@ -236,7 +188,7 @@ fn push_links(strip: &mut [u8], at: usize, body: &[u8], o: u32) -> Listed
 {
     let count = (body.len() - 4) / 16;
     let end = 4 + count * 16;
-    let a = begin_container(strip, at, LINKS, o + 4, o + end as u32);
+    let a = begin_container(strip, at, v3::LINKS, o + 4, o + end as u32);
     let b = push_link_entries(strip, a, body, o, count);
     let c = end_container(strip, b);
     Listed { at: c, end }
@@ -261,7 +213,7 @@ fn push_link_entries(strip: &mut [u8], at: usize, body: &[u8], o: u32, count: us
 
 // A router's link, of 16 bytes.
 fn push_link(strip: &mut [u8], at: usize, body: &[u8], p: usize, o: u32) -> usize
-    requires { ⌜ at + 76 ≤ length (now strip) ⌝ }
+    requires { ⌜ at + length (encode (link (now body) o (record { at = p; len = 16 }))) ≤ length (now strip) ⌝ }
     requires { ⌜ p + 16 ≤ length (now body) ⌝ }
     requires { ⌜ o + length (now body) < 4294967296 ⌝ }
     ensures { λ r. ⌜ Wrote (now (strip .entry)) at (encode (link (now (body .entry)) o (record { at = p; len = 16 }))) (now (strip .exit)) r ⌝ }
@@ -273,16 +225,16 @@ fn push_link(strip: &mut [u8], at: usize, body: &[u8], p: usize, o: u32) -> usiz
 }
 
 fn push_link_fields(strip: &mut [u8], at: usize, body: &[u8], p: usize, o: u32) -> usize
-    requires { ⌜ at + 65 ≤ length (now strip) ⌝ }
+    requires { ⌜ at + length (encode (linkFields (now body) o p)) ≤ length (now strip) ⌝ }
     requires { ⌜ p + 16 ≤ length (now body) ⌝ }
     requires { ⌜ o + length (now body) < 4294967296 ⌝ }
     ensures { λ r. ⌜ Wrote (now (strip .entry)) at (encode (linkFields (now (body .entry)) o p)) (now (strip .exit)) r ⌝ }
 {
-    let a = push_u8_at(strip, at, LINK_TYPE, body, p, o);
-    let b = push_u16_at(strip, a, LINK_METRIC, body, p + 2, o);
-    let c = push_u32_at(strip, b, INTERFACE_ID, body, p + 4, o);
-    let d = push_u32_at(strip, c, NEIGHBOR_INTERFACE_ID, body, p + 8, o);
-    push_ipv4_at(strip, d, NEIGHBOR_ROUTER_ID, body, p + 12, o)
+    let a = push_u8_at(strip, at, v3::LINK_TYPE, body, p, o);
+    let b = push_u16_at(strip, a, v3::LINK_METRIC, body, p + 2, o);
+    let c = push_u32_at(strip, b, v3::INTERFACE_ID, body, p + 4, o);
+    let d = push_u32_at(strip, c, v3::NEIGHBOR_INTERFACE_ID, body, p + 8, o);
+    push_ipv4_at(strip, d, v3::NEIGHBOR_ROUTER_ID, body, p + 12, o)
 }
 
 // Network-LSA: 0, Options, Attached Routers (RFC 5340 A.4.4).
@@ -295,7 +247,7 @@ fn push_network_lsa(strip: &mut [u8], at: usize, body: &[u8], o: u32) -> Body
         return Body::Raw;
     }
     let a = push_options(strip, at, body, o);
-    let routers = push_attached_routers(strip, a, ATTACHED_ROUTERS, body, o);
+    let routers = push_attached_routers(strip, a, v3::ATTACHED_ROUTERS, body, o);
     Body::Decoded {
         at: routers.at,
         consumed: routers.end,
@@ -312,8 +264,8 @@ fn push_inter_area_router_lsa(strip: &mut [u8], at: usize, body: &[u8], o: u32) 
         return Body::Raw;
     }
     let a = push_options(strip, at, body, o);
-    let b = push_metric24_at(strip, a, METRIC, body, 5, o);
-    let c = push_ipv4_at(strip, b, DESTINATION_ROUTER_ID, body, 8, o);
+    let b = push_metric24_at(strip, a, v3::METRIC, body, 5, o);
+    let c = push_ipv4_at(strip, b, v3::DESTINATION_ROUTER_ID, body, 8, o);
     Body::Decoded {
         at: c,
         consumed: 12,

@@ -1,5 +1,4 @@
-// The lengths of what this crate's functions write, wherever the LSA lies: `measure_x` for `push_x`. The place in an
-// answer is counted from where the entries begin.
+// The lengths of what this crate's functions write, wherever the LSA lies: `measure_x` for `push_x`.
 ghost use mathlib.Core.Path.{_≡_};
 ghost use Prim.Native.Nat.{ℕ, _≤_, _<_};
 ghost use mathlib.Core.List.{List};
@@ -9,32 +8,38 @@ ghost use Rattle.format.specs.Strip.{Entry, encode};
 ghost use Rattle.format.specs.V3.{routerLsa3, networkLsa3, interAreaRouterLsa, tlvLsa, body3, lsaEntries3, lsaTail3};
 ghost use Rattle.body.specs.Answers.{measuredOf};
 use crate::function_code;
-use body::Body;
 use body::Lsa;
+use body::Measured;
+use body::ROUTER_FLAGS_LENGTH;
 use body::bytes_from;
 use body::measure_attached_routers;
 use body::measure_unparsed;
 use header::LsaHeader;
 use header::v3::measure_lsa_header_fields;
+use strip_push::BYTES_LENGTH;
+use strip_push::CONTAINER_LENGTH;
+use strip_push::IPV4_LENGTH;
+use strip_push::U8_LENGTH;
+use strip_push::U16_LENGTH;
+use strip_push::U32_LENGTH;
 use v3_external::measure::measure_external_lsa;
-use v3_prefix::measure::ARRAY;
-use v3_prefix_lsa::measure::METRIC;
-use v3_prefix_lsa::measure::OPTIONS;
-use v3_prefix_lsa::measure::REFERENCES;
-use v3_prefix_lsa::measure::ROUTER_PRIORITY;
+use v3_prefix_lsa::measure::OPTIONS_LENGTH;
+use v3_prefix_lsa::measure::REFERENCES_LENGTH;
 use v3_prefix_lsa::measure::measure_inter_area_prefix_lsa;
 use v3_prefix_lsa::measure::measure_intra_area_prefix_lsa;
 use v3_prefix_lsa::measure::measure_link_lsa;
 
-// What the fields of a body take.
-const ROUTER_FLAGS: usize = 55;
+// What a Router-LSA has beside its links, and a link.
+const ROUTER_LENGTH: usize = E_ROUTER_LENGTH + CONTAINER_LENGTH;
 
-const DESTINATION_ROUTER_ID: usize = 14;
+const LINK_LENGTH: usize = CONTAINER_LENGTH + U8_LENGTH + U16_LENGTH + 2 * U32_LENGTH + IPV4_LENGTH;
 
-const TLVS: usize = 10;
+// What an Inter-Area-Router-LSA has, and an E-Router-LSA and an E-Link-LSA before their TLVs.
+const INTER_AREA_ROUTER_LENGTH: usize = OPTIONS_LENGTH + U32_LENGTH + IPV4_LENGTH;
 
-// A link.
-const LINK: usize = 76;
+const E_ROUTER_LENGTH: usize = ROUTER_FLAGS_LENGTH + OPTIONS_LENGTH;
+
+const E_LINK_LENGTH: usize = U8_LENGTH + OPTIONS_LENGTH;
 
 pub fn measure_lsa(lsa: &[u8]) -> Lsa
     requires { ⌜ headerSize ≤ length (now lsa) ⌝ }
@@ -46,18 +51,18 @@ pub fn measure_lsa(lsa: &[u8]) -> Lsa
     let function = function_code(lsa);
     let body = &lsa[LsaHeader::SIZE..];
     match measure_body(function, body) {
-        Body::Decoded { at, consumed } => Lsa {
-            length: header + (at + measure_unparsed(body, consumed)),
+        Measured::Decoded { length, consumed } => Lsa {
+            length: header + (length + measure_unparsed(body, consumed)),
             tail: bytes_from(body, consumed),
         },
-        Body::Raw => Lsa {
+        Measured::Raw => Lsa {
             length: header + measure_unparsed(body, 0),
             tail: 0,
         },
     }
 }
 
-fn measure_body(function: u16, body: &[u8]) -> Body
+fn measure_body(function: u16, body: &[u8]) -> Measured
     requires { ⌜ length (now body) < 65536 ⌝ }
     ensures { λ r. ⌜ ((o : ℕ) → r ≡ measuredOf (body3 function (now (body .entry)) o)) ⌝ }
 {
@@ -70,65 +75,65 @@ fn measure_body(function: u16, body: &[u8]) -> Body
         8 => measure_link_lsa(body),
         9 => measure_intra_area_prefix_lsa(body),
         12 | 35 | 36 | 37 | 39 | 42 => measure_tlv_lsa(body, 0, 0),
-        33 => measure_tlv_lsa(body, 4, ROUTER_FLAGS + OPTIONS),
-        34 => measure_tlv_lsa(body, 4, OPTIONS),
-        40 => measure_tlv_lsa(body, 4, ROUTER_PRIORITY + OPTIONS),
-        41 => measure_tlv_lsa(body, 12, REFERENCES),
-        _ => Body::Raw,
+        33 => measure_tlv_lsa(body, 4, E_ROUTER_LENGTH),
+        34 => measure_tlv_lsa(body, 4, OPTIONS_LENGTH),
+        40 => measure_tlv_lsa(body, 4, E_LINK_LENGTH),
+        41 => measure_tlv_lsa(body, 12, REFERENCES_LENGTH),
+        _ => Measured::Raw,
     }
 }
 
 // A body of TLVs after a part of n bytes whose entries take so much.
-fn measure_tlv_lsa(body: &[u8], n: usize, fixed: usize) -> Body
+fn measure_tlv_lsa(body: &[u8], n: usize, fixed: usize) -> Measured
     requires { ⌜ fixed < 65536 ⌝ }
     ensures { λ r. ⌜ ((o : ℕ) (es : List Entry) → length (encode es) ≡ fixed → r ≡ measuredOf (tlvLsa n es (now (body .entry)) o)) ⌝ }
 {
     if body.len() < n {
-        return Body::Raw;
+        return Measured::Raw;
     }
-    Body::Decoded {
-        at: fixed + TLVS,
+    Measured::Decoded {
+        length: fixed + BYTES_LENGTH,
         consumed: body.len(),
     }
 }
 
-fn measure_router_lsa(body: &[u8]) -> Body
+fn measure_router_lsa(body: &[u8]) -> Measured
     requires { ⌜ length (now body) < 65536 ⌝ }
     ensures { λ r. ⌜ ((o : ℕ) → r ≡ measuredOf (routerLsa3 (now (body .entry)) o)) ⌝ }
 {
     if body.len() < 4 {
-        return Body::Raw;
+        return Measured::Raw;
     }
     let count = (body.len() - 4) / 16;
-    Body::Decoded {
-        at: ROUTER_FLAGS + OPTIONS + ARRAY + count * LINK,
+    Measured::Decoded {
+        length: ROUTER_LENGTH + count * LINK_LENGTH,
         consumed: 4 + count * 16,
     }
 }
 
-fn measure_network_lsa(body: &[u8]) -> Body
+fn measure_network_lsa(body: &[u8]) -> Measured
     requires { ⌜ length (now body) < 65536 ⌝ }
     ensures { λ r. ⌜ ((o : ℕ) → r ≡ measuredOf (networkLsa3 (now (body .entry)) o)) ⌝ }
 {
     if body.len() < 4 {
-        return Body::Raw;
+        return Measured::Raw;
     }
     let routers = measure_attached_routers(body);
-    Body::Decoded {
-        at: OPTIONS + routers.at,
+    Measured::Decoded {
+        length: OPTIONS_LENGTH + routers.length,
         consumed: routers.end,
     }
 }
 
-fn measure_inter_area_router_lsa(body: &[u8]) -> Body
+fn measure_inter_area_router_lsa(body: &[u8]) -> Measured
     requires { ⌜ length (now body) < 65536 ⌝ }
     ensures { λ r. ⌜ ((o : ℕ) → r ≡ measuredOf (interAreaRouterLsa (now (body .entry)) o)) ⌝ }
 {
     if body.len() < 12 {
-        return Body::Raw;
+        return Measured::Raw;
     }
-    Body::Decoded {
-        at: OPTIONS + METRIC + DESTINATION_ROUTER_ID,
+    Measured::Decoded {
+        length: INTER_AREA_ROUTER_LENGTH,
         consumed: 12,
     }
 }

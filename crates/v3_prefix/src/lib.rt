@@ -1,5 +1,5 @@
 // The prefixes of version 3 (RFC 5340 A.4.1): whether one fits in a body, and a list of them. The LSAs that have a list are
-// in crate `v3_prefix_lsa`. The ids of the fields that these share with other LSAs are here too.
+// in crate `v3_prefix_lsa`.
 ghost use mathlib.Core.Path.{_≡_};
 ghost use Prim.Native.Nat.{_+_, _≤_, _<_};
 ghost use mathlib.Core.Bool.{cond};
@@ -12,6 +12,9 @@ ghost use Rattle.format.specs.V3.{prefixFits, fixedPrefixFits, entryFits, prefi
 ghost use Rattle.format.specs.Wrote.{Wrote};
 ghost use Rattle.util.specs.Answers.{lengthOf};
 use body::Listed;
+use strip_ids::TOS_METRIC_OR_PREFIX;
+use strip_ids::v3;
+use strip_push::OPEN_LENGTH;
 use strip_push::begin_container;
 use strip_push::end_container;
 use strip_push::push_ipv6_at;
@@ -21,32 +24,6 @@ use tlv::prefix_octets;
 use util::Length;
 
 pub mod measure;
-
-// Field ids of an LSA after those of its header.
-pub const METRIC: u8 = 17;
-
-pub const PREFIX_LENGTH: u8 = 18;
-
-pub const PREFIX_OPTIONS: u8 = 19;
-
-pub const PREFIX: u8 = 20;
-
-pub const REFERENCED_LS_TYPE: u8 = 22;
-
-pub const REFERENCED_LINK_STATE_ID: u8 = 25;
-
-const PREFIXES: u8 = 29;
-
-// Field ids of a prefix in a list, and the prefix itself.
-const P_PREFIX_LENGTH: u8 = 80;
-
-const P_PREFIX_OPTIONS: u8 = 81;
-
-const P_METRIC: u8 = 82;
-
-const P_PREFIX: u8 = 83;
-
-const PREFIX_ENTRY: u8 = 97;
 
 // The octets of a prefix of so many bits, if they lie in a body from p on.
 fn prefix_fits(body: &[u8], prefix_length: u8, p: usize) -> Length
@@ -107,8 +84,14 @@ pub fn push_prefixes(
     ensures { λ r. ⌜ Wrote (now (strip .entry)) at (encode (listing 29 (prefix «with_metric» (now (body .entry)) o) o p (cut prefixRule (now (body .entry)) count p))) (now (strip .exit)) (r .at) ⌝ }
     ensures { λ r. ⌜ r .end ≡ after p (cut prefixRule (now (body .entry)) count p) ⌝ }
 {
-    let entries = push_prefix_entries(strip, at + 10, body, p, count, with_metric, o);
-    begin_container(strip, at, PREFIXES, o + p as u32, o + entries.end as u32);
+    let entries = push_prefix_entries(strip, at + OPEN_LENGTH, body, p, count, with_metric, o);
+    begin_container(
+        strip,
+        at,
+        v3::PREFIXES,
+        o + p as u32,
+        o + entries.end as u32,
+    );
     let a = end_container(strip, entries.at);
     Listed {
         at: a,
@@ -166,7 +149,13 @@ fn push_prefix(
     ensures { λ r. ⌜ Wrote (now (strip .entry)) at (encode (prefix «with_metric» (now (body .entry)) o (record { at = p; len = 4 + n }))) (now (strip .exit)) r ⌝ }
 {
     let start = o + p as u32;
-    let a = begin_container(strip, at, PREFIX_ENTRY, start, start + (4 + n as u32));
+    let a = begin_container(
+        strip,
+        at,
+        TOS_METRIC_OR_PREFIX,
+        start,
+        start + (4 + n as u32),
+    );
     let b = push_prefix_fields(strip, a, body, p, n, with_metric, o);
     end_container(strip, b)
 }
@@ -186,10 +175,10 @@ fn push_prefix_fields(
     requires { ⌜ o + length (now body) < 4294967296 ⌝ }
     ensures { λ r. ⌜ Wrote (now (strip .entry)) at (encode (prefixFields «with_metric» (now (body .entry)) o p n)) (now (strip .exit)) r ⌝ }
 {
-    let a = push_u8_at(strip, at, P_PREFIX_LENGTH, body, p, o);
-    let b = push_u8_at(strip, a, P_PREFIX_OPTIONS, body, p + 1, o);
+    let a = push_u8_at(strip, at, v3::LIST_PREFIX_LENGTH, body, p, o);
+    let b = push_u8_at(strip, a, v3::LIST_PREFIX_OPTIONS, body, p + 1, o);
     let c = push_prefix_metric(strip, b, body, p, with_metric, o);
-    push_ipv6_at(strip, c, P_PREFIX, body, p + 4, n, o)
+    push_ipv6_at(strip, c, v3::LIST_PREFIX, body, p + 4, n, o)
 }
 
 // The field of 16 bits, where it is a metric.
@@ -207,7 +196,7 @@ fn push_prefix_metric(
     ensures { λ r. ⌜ Wrote (now (strip .entry)) at (encode (prefixMetric «with_metric» (now (body .entry)) o p)) (now (strip .exit)) r ⌝ }
 {
     if with_metric {
-        push_u16_at(strip, at, P_METRIC, body, p + 2, o)
+        push_u16_at(strip, at, v3::LIST_PREFIX_METRIC, body, p + 2, o)
     } else {
         at
     }

@@ -8,6 +8,7 @@ ghost use Rattle.format.specs.V3.{options, references, interAreaPrefixLsa, link
 ghost use Rattle.format.specs.Wrote.{Wrote};
 ghost use Rattle.body.specs.Answers.{bytesOf, Pushed};
 use body::Body;
+use strip_ids::v3;
 use strip_push::push_ipv4_at;
 use strip_push::push_ipv6_at;
 use strip_push::push_metric24_at;
@@ -19,48 +20,31 @@ use strip_push::push_wide16_at;
 use util::Length;
 use util::read_be_u16;
 use util::read_be_u32;
-use v3_prefix::METRIC;
-use v3_prefix::PREFIX;
-use v3_prefix::PREFIX_LENGTH;
-use v3_prefix::PREFIX_OPTIONS;
-use v3_prefix::REFERENCED_LINK_STATE_ID;
-use v3_prefix::REFERENCED_LS_TYPE;
 use v3_prefix::fixed_prefix_fits;
 use v3_prefix::push_prefixes;
 
 pub mod measure;
 
-// Field ids of an LSA after those of its header, beside those of crate `v3_prefix`.
-const OPTIONS: u8 = 14;
-
-pub const ROUTER_PRIORITY: u8 = 26;
-
-const LINK_LOCAL_ADDRESS: u8 = 27;
-
-const NUM_PREFIXES: u8 = 28;
-
-const REFERENCED_ADVERTISING_ROUTER: u8 = 30;
-
 // The options, of 24 bits (RFC 5340 A.2).
 pub fn push_options(strip: &mut [u8], at: usize, body: &[u8], o: u32) -> usize
-    requires { ⌜ at + 14 ≤ length (now strip) ⌝ }
+    requires { ⌜ at + length (code (options (now body) o)) ≤ length (now strip) ⌝ }
     requires { ⌜ 4 ≤ length (now body) ⌝ }
     requires { ⌜ o + length (now body) < 4294967296 ⌝ }
     ensures { λ r. ⌜ Wrote (now (strip .entry)) at (code (options (now (body .entry)) o)) (now (strip .exit)) r ⌝ }
 {
-    push_u24_at(strip, at, OPTIONS, body, 1, o)
+    push_u24_at(strip, at, v3::OPTIONS, body, 1, o)
 }
 
 // Referenced LS Type, Referenced Link State ID, Referenced Advertising Router (RFC 5340 A.4.10).
 pub fn push_references(strip: &mut [u8], at: usize, body: &[u8], o: u32) -> usize
-    requires { ⌜ at + 40 ≤ length (now strip) ⌝ }
+    requires { ⌜ at + length (encode (references (now body) o)) ≤ length (now strip) ⌝ }
     requires { ⌜ 12 ≤ length (now body) ⌝ }
     requires { ⌜ o + length (now body) < 4294967296 ⌝ }
     ensures { λ r. ⌜ Wrote (now (strip .entry)) at (encode (references (now (body .entry)) o)) (now (strip .exit)) r ⌝ }
 {
-    let a = push_u16_at(strip, at, REFERENCED_LS_TYPE, body, 2, o);
-    let b = push_u32_at(strip, a, REFERENCED_LINK_STATE_ID, body, 4, o);
-    push_ipv4_at(strip, b, REFERENCED_ADVERTISING_ROUTER, body, 8, o)
+    let a = push_u16_at(strip, at, v3::REFERENCED_LS_TYPE, body, 2, o);
+    let b = push_u32_at(strip, a, v3::REFERENCED_LINK_STATE_ID, body, 4, o);
+    push_ipv4_at(strip, b, v3::REFERENCED_ADVERTISING_ROUTER, body, 8, o)
 }
 
 // Inter-Area-Prefix-LSA: 0, Metric, PrefixLength, PrefixOptions, 0, Address Prefix (RFC 5340 A.4.5).
@@ -72,10 +56,10 @@ pub fn push_inter_area_prefix_lsa(strip: &mut [u8], at: usize, body: &[u8], o: u
     let Length::Bytes(n) = fixed_prefix_fits(body) else {
         return Body::Raw;
     };
-    let a = push_metric24_at(strip, at, METRIC, body, 1, o);
-    let b = push_u8_at(strip, a, PREFIX_LENGTH, body, 4, o);
-    let c = push_u8_at(strip, b, PREFIX_OPTIONS, body, 5, o);
-    let d = push_ipv6_at(strip, c, PREFIX, body, 8, n, o);
+    let a = push_metric24_at(strip, at, v3::METRIC, body, 1, o);
+    let b = push_u8_at(strip, a, v3::PREFIX_LENGTH, body, 4, o);
+    let c = push_u8_at(strip, b, v3::PREFIX_OPTIONS, body, 5, o);
+    let d = push_ipv6_at(strip, c, v3::PREFIX, body, 8, n, o);
     Body::Decoded {
         at: d,
         consumed: 8 + n,
@@ -91,10 +75,10 @@ pub fn push_link_lsa(strip: &mut [u8], at: usize, body: &[u8], o: u32) -> Body
     if body.len() < 24 {
         return Body::Raw;
     }
-    let a = push_u8_at(strip, at, ROUTER_PRIORITY, body, 0, o);
+    let a = push_u8_at(strip, at, v3::ROUTER_PRIORITY, body, 0, o);
     let b = push_options(strip, a, body, o);
-    let c = push_ipv6_at(strip, b, LINK_LOCAL_ADDRESS, body, 4, 16, o);
-    let d = push_u32_at(strip, c, NUM_PREFIXES, body, 20, o);
+    let c = push_ipv6_at(strip, b, v3::LINK_LOCAL_ADDRESS, body, 4, 16, o);
+    let d = push_u32_at(strip, c, v3::NUM_PREFIXES, body, 20, o);
     let prefixes = push_prefixes(strip, d, body, 24, read_be_u32(body, 20), false, o);
     Body::Decoded {
         at: prefixes.at,
@@ -111,7 +95,7 @@ pub fn push_intra_area_prefix_lsa(strip: &mut [u8], at: usize, body: &[u8], o: u
     if body.len() < 12 {
         return Body::Raw;
     }
-    let a = push_wide16_at(strip, at, NUM_PREFIXES, body, 0, o);
+    let a = push_wide16_at(strip, at, v3::NUM_PREFIXES, body, 0, o);
     let b = push_references(strip, a, body, o);
     let prefixes = push_prefixes(strip, b, body, 12, read_be_u16(body, 0) as u32, true, o);
     Body::Decoded {

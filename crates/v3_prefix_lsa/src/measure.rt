@@ -1,70 +1,70 @@
-// The lengths of what this crate's functions write, wherever the LSA lies: `measure_x` for `push_x`. The place in an
-// answer is counted from where the entries begin.
+// The lengths of what this crate's functions write, wherever the LSA lies: `measure_x` for `push_x`.
 ghost use mathlib.Core.Path.{_≡_};
 ghost use Prim.Native.Nat.{ℕ, _<_};
 ghost use lib.ListN.{length};
 ghost use Rattle.format.specs.V3.{interAreaPrefixLsa, linkLsa, intraAreaPrefixLsa};
 ghost use Rattle.body.specs.Answers.{measuredOf};
-use body::Body;
+use body::Measured;
+use strip_push::IPV4_LENGTH;
+use strip_push::IPV6_LENGTH;
+use strip_push::U8_LENGTH;
+use strip_push::U16_LENGTH;
+use strip_push::U32_LENGTH;
 use util::Length;
 use util::read_be_u16;
 use util::read_be_u32;
 use v3_prefix::fixed_prefix_fits;
 use v3_prefix::measure::measure_prefixes;
 
-// What the fields of a body take.
-pub const OPTIONS: usize = 14;
+// What an Inter-Area-Prefix-LSA has, a Link-LSA before its prefixes, and an Intra-Area-Prefix-LSA before them.
+const INTER_AREA_PREFIX_LENGTH: usize = U32_LENGTH + 2 * U8_LENGTH + IPV6_LENGTH;
 
-pub const METRIC: usize = 14;
+const LINK_LENGTH: usize = U8_LENGTH + OPTIONS_LENGTH + IPV6_LENGTH + U32_LENGTH;
 
-pub const REFERENCES: usize = 40;
+const INTRA_AREA_PREFIX_LENGTH: usize = U32_LENGTH + REFERENCES_LENGTH;
 
-pub const ROUTER_PRIORITY: usize = 11;
+// What `push_options` and `push_references` write.
+pub const OPTIONS_LENGTH: usize = U32_LENGTH;
 
-const LINK_LOCAL_ADDRESS: usize = 26;
+pub const REFERENCES_LENGTH: usize = U16_LENGTH + U32_LENGTH + IPV4_LENGTH;
 
-const NUM_PREFIXES: usize = 14;
-
-// A prefix outside a list: its length, its options, its address.
-const PREFIX: usize = 48;
-
-pub fn measure_inter_area_prefix_lsa(body: &[u8]) -> Body
+pub fn measure_inter_area_prefix_lsa(body: &[u8]) -> Measured
     requires { ⌜ length (now body) < 65536 ⌝ }
     ensures { λ r. ⌜ ((o : ℕ) → r ≡ measuredOf (interAreaPrefixLsa (now (body .entry)) o)) ⌝ }
 {
     let Length::Bytes(n) = fixed_prefix_fits(body) else {
-        return Body::Raw;
+        return Measured::Raw;
     };
-    Body::Decoded {
-        at: METRIC + PREFIX,
+    Measured::Decoded {
+        length: INTER_AREA_PREFIX_LENGTH,
         consumed: 8 + n,
     }
 }
 
-pub fn measure_link_lsa(body: &[u8]) -> Body
+pub fn measure_link_lsa(body: &[u8]) -> Measured
     requires { ⌜ length (now body) < 65536 ⌝ }
     ensures { λ r. ⌜ ((o : ℕ) → r ≡ measuredOf (linkLsa (now (body .entry)) o)) ⌝ }
 {
     if body.len() < 24 {
-        return Body::Raw;
+        return Measured::Raw;
     }
     let prefixes = measure_prefixes(body, 24, read_be_u32(body, 20), false);
-    Body::Decoded {
-        at: ROUTER_PRIORITY + OPTIONS + LINK_LOCAL_ADDRESS + NUM_PREFIXES + prefixes.at,
+    Measured::Decoded {
+        length: LINK_LENGTH + prefixes.length,
         consumed: prefixes.end,
     }
 }
 
-pub fn measure_intra_area_prefix_lsa(body: &[u8]) -> Body
+pub fn measure_intra_area_prefix_lsa(body: &[u8]) -> Measured
     requires { ⌜ length (now body) < 65536 ⌝ }
     ensures { λ r. ⌜ ((o : ℕ) → r ≡ measuredOf (intraAreaPrefixLsa (now (body .entry)) o)) ⌝ }
 {
     if body.len() < 12 {
-        return Body::Raw;
+        return Measured::Raw;
     }
     let prefixes = measure_prefixes(body, 12, read_be_u16(body, 0) as u32, true);
-    Body::Decoded {
-        at: NUM_PREFIXES + REFERENCES + prefixes.at,
+    Measured::Decoded {
+        length: INTRA_AREA_PREFIX_LENGTH + prefixes.length,
         consumed: prefixes.end,
     }
 }

@@ -1,10 +1,11 @@
-// The walks by their numbers, a walk's answer, and what every walk has: its refusals, and the ids of its containers and of
-// unparsed bytes.
+// The walks by their numbers, a walk's answer, and what every walk has: its refusals, and the id of unparsed bytes.
 ghost use mathlib.Core.Path.{_≡_};
 ghost use Prim.Native.Nat.{_<_};
 ghost use lib.ListN.{length};
 ghost use Rattle.format.specs.Walks.{walkNamed, isKnown, refusal, answer, unparsedId};
 ghost use Rattle.walk_answer.specs.Answers.{answered, namedWalkOf};
+use strip_ids::v2;
+use strip_ids::v3;
 
 // The walks over a header list, a link-state update and a single LSA.
 pub enum Walk {
@@ -38,13 +39,6 @@ pub struct Answer {
     pub records: usize,
     pub tail: usize,
 }
-
-// Container ids of the walks.
-pub const HEADER: u8 = 112;
-
-pub const LSA: u8 = 113;
-
-pub const OUTER: u8 = 114;
 
 // The largest data and offset, which keep every place within 32 bits.
 const MAX_DATA: usize = 65535;
@@ -116,5 +110,9 @@ pub fn no_room(length: usize) -> Answer
 pub fn unparsed_id(version: u8) -> u8
     ensures { λ r. ⌜ r ≡ unparsedId version ⌝ }
 {
-    if version == 2 { 25 } else { 33 }
+    if version == 2 {
+        v2::UNPARSED
+    } else {
+        v3::UNPARSED
+    }
 }

@@ -15,12 +15,13 @@ use body::push_unparsed;
 use header::LsaHeader;
 use header::v2;
 use header::v3;
+use strip_ids::HEADER;
+use strip_ids::OUTER;
+use strip_push::CONTAINER_LENGTH;
 use strip_push::begin_container;
 use strip_push::begin_container_at;
 use strip_push::end_container;
 use walk_answer::Answer;
-use walk_answer::HEADER;
-use walk_answer::OUTER;
 use walk_answer::no_room;
 use walk_answer::refusal_of;
 use walk_answer::refused;
@@ -37,7 +38,9 @@ pub fn push_lsa_headers(version: u8, data: &[u8], offset: u64, strip: &mut [u8])
     }
     let count = data.len() / LsaHeader::SIZE;
     let end = count * LsaHeader::SIZE;
-    let length = measure_headers(version, data, count) + 11 + measure_unparsed(data, end);
+    let length = measure_headers(version, data, count)
+        + CONTAINER_LENGTH
+        + measure_unparsed(data, end);
     if strip.len() < length {
         return no_room(length);
     }
@@ -75,7 +78,7 @@ fn measure_headers(version: u8, data: &[u8], count: usize) -> usize
     let mut left = count;
     while 0 < left {
         let q = pos + LsaHeader::SIZE;
-        total = total + 11 + measure_header(version, &data[pos..q]);
+        total = total + CONTAINER_LENGTH + measure_header(version, &data[pos..q]);
         pos = q;
         left = left - 1;
     }

@@ -13,14 +13,15 @@ ghost use Rattle.util.specs.Answers.{lengthOf};
 use body::measure_unparsed;
 use body::push_unparsed;
 use header::LsaHeader;
+use strip_ids::LSA;
+use strip_ids::OUTER;
+use strip_push::CONTAINER_LENGTH;
 use strip_push::begin_container;
 use strip_push::begin_container_at;
 use strip_push::end_container;
 use util::Length;
 use util::read_be_u16;
 use walk_answer::Answer;
-use walk_answer::LSA;
-use walk_answer::OUTER;
 use walk_answer::no_room;
 use walk_answer::refusal_of;
 use walk_answer::refused;
@@ -49,7 +50,7 @@ pub fn push_lsu_lsas(version: u8, data: &[u8], count: u32, offset: u64, strip: &
     }
     let m = measure_lsas(version, data, count);
     let end = m.end;
-    let length = m.length + 11 + measure_unparsed(data, end);
+    let length = m.length + CONTAINER_LENGTH + measure_unparsed(data, end);
     if strip.len() < length {
         return no_room(length);
     }
@@ -100,7 +101,7 @@ fn measure_lsas(version: u8, data: &[u8], count: u32) -> Lsas
             break pos;
         };
         let q = pos + n;
-        total = total + 11 + measure_lsa(version, &data[pos..q]).length;
+        total = total + CONTAINER_LENGTH + measure_lsa(version, &data[pos..q]).length;
         pos = q;
         left = left - 1;
     };

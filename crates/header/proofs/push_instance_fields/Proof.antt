@@ -13,5 +13,5 @@ returns c =
     then (then (k1 .push-u32-at .ensures) (k2 .push-u16-at .ensures)) (k3 .push-u16-at2 .ensures)
 
 pub push-instance-fields-spec : {M : Type 1} → statement M
-unfolding code
+unfolding encode code
 push-instance-fields-spec = tie.close (tie.spec (search needs) (search needs) (search needs) (search needs) (search needs) (search needs) returns)

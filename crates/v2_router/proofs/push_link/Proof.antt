@@ -18,7 +18,7 @@ begin-container-at-requires c κs =
     omega arith
 
 push-link-fields-requires : tie.Need-push-link-fields-requires
-unfolding code
+unfolding encode code
 push-link-fields-requires c κs =
     let s = c .before .before .before .before .before .before .before in
     let h = link-inside (s .args .body .now) (s .args .p) (s .args .n) (s .pre .1 .0) in

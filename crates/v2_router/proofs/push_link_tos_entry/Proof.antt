@@ -5,6 +5,8 @@ use mathlib.Core.Path.{_≡_}
 use lib.ListN.{take, drop}
 use Rattle.body.proofs.Lent.{of-part}
 use Rattle.v2_router.proofs.Rest.{lent-tos}
+use Rattle.format.specs.V2.{linkTos}
+use Rattle.format.specs.Strip.{code, encode, container}
 use borrow.Author.Needs.{needs}
 use Rattle.v2_router.proofs.push_link_tos_entry.Statement.{statement}
 use Rattle.v2_router.proofs.push_link_tos_entry.Tie as tie
@@ -16,6 +18,7 @@ returns c =
     rw (z, lent-tos (take 4 (drop (a .p) (a .body .now))) (a .body .now) (a .o) (a .p) 4 (of-part (a .body .now) (a .p) 4) 0 (omega arith), add-zero (a .p)) at (c .before .before .push-tos-entry .ensures)
 
 pub push-link-tos-entry-spec : {M : Type 1} → statement M
+unfolding code encode container linkTos
 push-link-tos-entry-spec = tie.close (tie.spec
     (search needs) (search needs) (search needs) (search needs) (search needs) (search needs) (search needs)
     (search needs) returns)

@@ -15,5 +15,5 @@ returns c =
     then (then (then (k1 .begin-container-at .ensures) (k2 .push-u8-at .ensures)) (k3 .push-link-tos-metric .ensures)) (k4 .end-container .ensures)
 
 pub push-tos-entry-spec : {M : Type 1} → statement M
-unfolding code encode
+unfolding code encode container linkTos
 push-tos-entry-spec = tie.close (tie.spec (search needs) (search needs) (search needs) (search needs) (search needs) returns)

@@ -14,6 +14,6 @@ returns c =
     then (then (k1 .begin-container .ensures) (k2 .push-external-tos-fields .ensures)) (k3 .end-container .ensures)
 
 pub push-external-tos-entry-spec : {M : Type 1} → statement M
-unfolding code encode
+unfolding code encode container externalTos
 push-external-tos-entry-spec = tie.close (tie.spec
     (search needs) (search needs) (search needs) (search needs) (search needs) (search needs) (search needs) returns)

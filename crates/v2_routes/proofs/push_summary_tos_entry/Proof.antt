@@ -15,7 +15,7 @@ returns c =
     then (then (then (k1 .begin-container .ensures) (k2 .push-u8-at .ensures)) (k3 .push-metric24-at .ensures)) (k4 .end-container .ensures)
 
 pub push-summary-tos-entry-spec : {M : Type 1} → statement M
-unfolding code encode
+unfolding code encode container summaryTos
 push-summary-tos-entry-spec = tie.close (tie.spec
     (search needs) (search needs) (search needs) (search needs) (search needs) (search needs) (search needs)
     (search needs) (search needs) returns)

@@ -10,4 +10,5 @@ unfolding encode code
 returns c = pushed-decoded _ _ _ refl (c .before .before .push-bytes .ensures)
 
 pub push-tlv-body-spec : {M : Type 1} → statement M
+unfolding encode code
 push-tlv-body-spec = tie.close (tie.spec (search needs) (search needs) (search needs) (search needs) (search needs) (search needs) returns)

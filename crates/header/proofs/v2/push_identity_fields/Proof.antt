@@ -15,5 +15,5 @@ returns c =
     then (then (then (then (k1 .push-u16-at .ensures) (k2 .push-u8-at .ensures)) (k3 .push-u8-at2 .ensures)) (k4 .push-ipv4-at .ensures)) (k5 .push-ipv4-at2 .ensures)
 
 pub push-identity-fields-spec : {M : Type 1} → statement M
-unfolding code
+unfolding encode code
 push-identity-fields-spec = tie.close (tie.spec (search needs) (search needs) (search needs) (search needs) (search needs) (search needs) returns)

@@ -12,5 +12,5 @@ returns c =
     then (k1 .push-u8-at .ensures) (k2 .push-u24-at .ensures)
 
 pub push-opaque-fields-spec : {M : Type 1} → statement M
-unfolding code
+unfolding encode code
 push-opaque-fields-spec = tie.close (tie.spec (search needs) (search needs) (search needs) returns)

@@ -14,5 +14,5 @@ returns c =
     then (then (then (k1 .push-u16-at .ensures) (k2 .push-u16-at2 .ensures)) (k3 .push-u32-at .ensures)) (k4 .push-ipv4-at .ensures)
 
 pub push-identity-fields-spec : {M : Type 1} → statement M
-unfolding code
+unfolding encode code
 push-identity-fields-spec = tie.close (tie.spec (search needs) (search needs) (search needs) (search needs) (search needs) returns)

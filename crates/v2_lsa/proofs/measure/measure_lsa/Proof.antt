@@ -49,9 +49,6 @@ add-t18 c =
     let l = lsa-bound2 (c .before .before .before .before .before .before .before .before .before .before .args .lsa .now) 0 (c .before .before .before .before .before .before .before .before .before .before .pre .0) in
     omega arith
 
-enum-told : tie.Need-enum-told
-enum-told c = search needs
-
 add-t20 : tie.Need-add-t20
 add-t20 c =
     let t = unparsed c 0 in
@@ -79,4 +76,5 @@ returns-2 c =
 pub measure-lsa-spec : {M : Type 1} → statement M
 measure-lsa-spec = tie.close (tie.spec
     (search needs) (search needs) (search needs) (search needs) (search needs) (search needs) (search needs)
-    (search needs) (search needs) add-t17 add-t18 (search needs) enum-told (search needs) add-t20 returns returns-2)
+    (search needs) (search needs) add-t17 add-t18 (search needs) (search needs) (search needs) add-t20 returns
+    returns-2)

@@ -21,5 +21,4 @@ returns c =
 
 pub measure-link-spec : {M : Type 1} → statement M
 measure-link-spec = tie.close (tie.spec
-    (search needs) (search needs) (search needs) (search needs) (search needs) (search needs) (search needs)
     (search needs) (search needs) (search needs) (search needs) (search needs) returns)

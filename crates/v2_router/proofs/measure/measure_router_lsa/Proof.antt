@@ -22,5 +22,4 @@ returns-2 c =
     λ o. rw (le-ltb (length b) 4 (omega arith)) (same-decoded (let e = rw count at (c .before .measure-links .ensures .0 o) in let l = length-listing 16 (link b o) o 4 (links b) in omega arith) (rw count at (c .before .measure-links .ensures .1 .0)))
 
 pub measure-router-lsa-spec : {M : Type 1} → statement M
-measure-router-lsa-spec = tie.close (tie.spec
-    returns (search needs) (search needs) (search needs) (search needs) (search needs) (search needs) returns-2)
+measure-router-lsa-spec = tie.close (tie.spec returns (search needs) (search needs) (search needs) returns-2)

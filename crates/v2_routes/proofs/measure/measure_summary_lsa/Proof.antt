@@ -23,5 +23,4 @@ returns-2 c =
 
 pub measure-summary-lsa-spec : {M : Type 1} → statement M
 measure-summary-lsa-spec = tie.close (tie.spec
-    returns (search needs) (search needs) (search needs) (search needs) (search needs) (search needs) (search needs)
-    (search needs) returns-2)
+    returns (search needs) (search needs) (search needs) (search needs) (search needs) returns-2)

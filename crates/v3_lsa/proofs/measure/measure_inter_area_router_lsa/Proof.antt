@@ -1,6 +1,5 @@
 use native.Mathlib.Omega.{arith}
 use lib.ListN.{length}
-use borrow.Author.Needs.{needs}
 use borrow.Author.Tests.{lt-ltb, le-ltb}
 use Rattle.format.specs.Strip.{encode, code}
 use Rattle.format.specs.V3.{interAreaRouterLsa}
@@ -16,4 +15,4 @@ unfolding interAreaRouterLsa encode code
 returns-2 c = λ o. rw (le-ltb (length (c .before .args .body .now)) 12 (omega arith))
 
 pub measure-inter-area-router-lsa-spec : {M : Type 1} → statement M
-measure-inter-area-router-lsa-spec = tie.close (tie.spec returns (search needs) (search needs) returns-2)
+measure-inter-area-router-lsa-spec = tie.close (tie.spec returns returns-2)

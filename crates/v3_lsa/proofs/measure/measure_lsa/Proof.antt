@@ -18,13 +18,13 @@ answer c o = rw (c .before .before .function-code .ensures, to-the-end (c .befor
 
 -- The lengths that are added are those of the LSA's parts.
 parsed : (c : tie.After-measure-unparsed) (o : ℕ)
-    → c .before .before .before .before .before .before .before .measure-lsa-header-fields .result + (c .before .before .at .given .0 .0 + c .measure-unparsed .result) ≡ length (encode (lsaEntries3 (c .before .before .before .before .before .before .before .before .before .args .lsa .now) o))
+    → c .before .before .before .before .before .before .before .measure-lsa-header-fields .result + (c .before .before .length .given .0 .0 + c .measure-unparsed .result) ≡ length (encode (lsaEntries3 (c .before .before .before .before .before .before .before .before .before .args .lsa .now) o))
 unfolding lsaEntries3
 parsed c o =
     let d = c .before .before .before .before .before .before .before .before .before .args .lsa .now in
     let f = c .before .before .before .before .before .before .before .measure-lsa-header-fields .ensures d o in
     let u = rw (to-the-end d 20) at (c .measure-unparsed .ensures 33 (o + 20)) in
-    let l = length-decoded (headerEntries3 d o) 31 33 (bodyOf3 d o) (drop 20 d) (o + 20) _ _ _ (answer (c .before .before .before .before) o) (c .before .before .at .given .1) in
+    let l = length-decoded (headerEntries3 d o) 31 33 (bodyOf3 d o) (drop 20 d) (o + 20) _ _ _ (answer (c .before .before .before .before) o) (c .before .before .length .given .1) in
     omega arith
 
 unparsed : (c : tie.After-measure-unparsed2) (o : ℕ) → c .before .before .before .before .before .before .measure-lsa-header-fields .result + c .measure-unparsed2 .result ≡ length (encode (lsaEntries3 (c .before .before .before .before .before .before .before .before .args .lsa .now) o))
@@ -42,9 +42,6 @@ add-t13 c = let s = c .before .before .before .before .before .before .before .b
 add-t14 : tie.Need-add-t14
 add-t14 c = let s = c .before .before .before .before .before .before .before .before .before in omega (arith, parsed c 0, lsa-bound3 (s .args .lsa .now) 0 (s .pre .0))
 
-enum-told : tie.Need-enum-told
-enum-told c = search needs
-
 add-t17 : tie.Need-add-t17
 add-t17 c = let s = c .before .before .before .before .before .before .before .before in omega (arith, unparsed c 0, lsa-bound3 (s .args .lsa .now) 0 (s .pre .0))
 
@@ -52,7 +49,7 @@ returns : tie.Need-returns
 unfolding lsaTail3
 returns c =
     let d = c .before .before .before .before .before .before .before .before .before .before .args .lsa .now in
-    let t = measured-is-decoded (bodyOf3 d 0) _ _ _ (answer (c .before .before .before .before .before) 0) (c .before .before .before .at .given .1) .1 (drop 20 d) in
+    let t = measured-is-decoded (bodyOf3 d 0) _ _ _ (answer (c .before .before .before .before .before) 0) (c .before .before .before .length .given .1) .1 (drop 20 d) in
     (parsed (c .before), rw (to-the-end d 20) at (c .bytes-from .ensures) ∙ sym t)
 
 returns-2 : tie.Need-returns-2
@@ -65,4 +62,4 @@ returns-2 c =
 pub measure-lsa-spec : {M : Type 1} → statement M
 measure-lsa-spec = tie.close (tie.spec
     (search needs) (search needs) (search needs) (search needs) (search needs) (search needs) (search needs)
-    (search needs) add-t13 add-t14 (search needs) enum-told (search needs) add-t17 returns returns-2)
+    (search needs) add-t13 add-t14 (search needs) (search needs) (search needs) add-t17 returns returns-2)

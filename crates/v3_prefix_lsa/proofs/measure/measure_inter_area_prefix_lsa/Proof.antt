@@ -22,8 +22,8 @@ returns c =
 fits : (c : tie.After-known-told) → fixedPrefixFits (c .before .before .before .before .before .args .body .now) ≡ some (c .before .n .given .0 .0)
 fits c = let k = c .before .before .before in some-of _ _ (k .fixed-prefix-fits .result) (k .fixed-prefix-fits .ensures) (c .before .n .given .1)
 
-add-t5 : tie.Need-add-t5
-add-t5 c =
+add-t4 : tie.Need-add-t4
+add-t4 c =
     let b = c .before .before .before .before .before .args .body .now in
     let i = fits-inside b (getD b 4 0) 8 _ (fits c) in
     omega arith
@@ -33,4 +33,5 @@ unfolding encode code
 returns-2 c = λ o. rw (inter-area-prefix-decoded (c .before .before .before .before .before .args .body .now) o _ (fits c))
 
 pub measure-inter-area-prefix-lsa-spec : {M : Type 1} → statement M
-measure-inter-area-prefix-lsa-spec = tie.close (tie.spec (search needs) (search needs) enum-told returns (search needs) add-t5 returns-2)
+measure-inter-area-prefix-lsa-spec = tie.close (tie.spec
+    (search needs) (search needs) enum-told returns add-t4 returns-2)

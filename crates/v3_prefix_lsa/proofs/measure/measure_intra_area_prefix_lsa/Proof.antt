@@ -16,8 +16,8 @@ returns : tie.Need-returns
 unfolding intraAreaPrefixLsa
 returns c = λ o. rw (lt-ltb (length (c .before .before .args .body .now)) 12 (omega arith))
 
-add-t7 : tie.Need-add-t7
-add-t7 c =
+add-t3 : tie.Need-add-t3
+add-t3 c =
     let b = c .before .before .before .before .before .args .body .now in
     let n = c .before .before .read-be-u16 .result in
     let e = c .before .measure-prefixes .ensures .0 0 in
@@ -34,4 +34,5 @@ returns-2 c =
     rw (le-ltb (length (c .before .before .before .before .before .args .body .now)) 12 (omega arith)) (same-decoded (omega arith) (rw (c .before .before .read-be-u16 .ensures) at (k .1)))
 
 pub measure-intra-area-prefix-lsa-spec : {M : Type 1} → statement M
-measure-intra-area-prefix-lsa-spec = tie.close (tie.spec returns (search needs) (search needs) (search needs) (search needs) add-t7 returns-2)
+measure-intra-area-prefix-lsa-spec = tie.close (tie.spec
+    returns (search needs) (search needs) (search needs) add-t3 returns-2)

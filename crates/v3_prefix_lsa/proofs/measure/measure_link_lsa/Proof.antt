@@ -16,8 +16,8 @@ returns : tie.Need-returns
 unfolding linkLsa
 returns c = λ o. rw (lt-ltb (length (c .before .before .args .body .now)) 24 (omega arith))
 
-add-t8 : tie.Need-add-t8
-add-t8 c =
+add-t3 : tie.Need-add-t3
+add-t3 c =
     let b = c .before .before .before .before .before .args .body .now in
     let n = c .before .before .read-be-u32 .result in
     let e = c .before .measure-prefixes .ensures .0 0 in
@@ -34,4 +34,4 @@ returns-2 c =
     rw (le-ltb (length (c .before .before .before .before .before .args .body .now)) 24 (omega arith)) (same-decoded (omega arith) (rw (c .before .before .read-be-u32 .ensures) at (k .1)))
 
 pub measure-link-lsa-spec : {M : Type 1} → statement M
-measure-link-lsa-spec = tie.close (tie.spec returns (search needs) (search needs) (search needs) (search needs) (search needs) add-t8 returns-2)
+measure-link-lsa-spec = tie.close (tie.spec returns (search needs) (search needs) add-t3 returns-2)

@@ -1,11 +1,11 @@
-use borrow.Author.Needs.{needs}
-use Rattle.format.specs.Strip.{encode, code}
+use Rattle.format.specs.Strip.{code, encode}
 use Rattle.format.proofs.Wrote.{then}
-use Rattle.v3_lsa.proofs.push_router_flags.Statement.{statement}
-use Rattle.v3_lsa.proofs.push_router_flags.Tie as tie
+use borrow.Author.Needs.{needs}
+use Rattle.body.proofs.push_router_flags.Statement.{statement}
+use Rattle.body.proofs.push_router_flags.Tie as tie
 
 returns : tie.Need-returns
-unfolding encode code
+unfolding code encode
 returns c =
     let k5 = c .before .before in
     let k4 = k5 .before .before .before .before in
@@ -16,4 +16,6 @@ returns c =
 
 pub push-router-flags-spec : {M : Type 1} → statement M
 unfolding code encode
-push-router-flags-spec = tie.close (tie.spec (search needs) (search needs) (search needs) (search needs) (search needs) (search needs) returns)
+push-router-flags-spec = tie.close (tie.spec
+    (search needs) (search needs) (search needs) (search needs) (search needs) (search needs) (search needs)
+    (search needs) (search needs) (search needs) returns)

@@ -1,0 +1,18 @@
+// The ids of a strip's entries, as docs/STRIP.md lists them: a module for each version's fields, and here the ids that mean
+// the same in both. A code's id stands here once; its definition's stands in the tables of crate `format`.
+pub mod v2;
+pub mod v3;
+
+// What stands in an array: a link, a TOS metric (version 2) or a prefix (version 3), an attached router.
+pub const LINK: u8 = 96;
+
+pub const TOS_METRIC_OR_PREFIX: u8 = 97;
+
+pub const ATTACHED_ROUTER: u8 = 98;
+
+// The containers of the walks: a header of a list, an LSA of an update, and the outer array of both.
+pub const HEADER: u8 = 112;
+
+pub const LSA: u8 = 113;
+
+pub const OUTER: u8 = 114;
