@@ -52,5 +52,5 @@ entry-at-spec = tie.close (tie.spec
     (λ c. rw (c .before .match .keys3, c .before .before .before .read-be-u32 .ensures, c .before .before .read-be-u322 .ensures, c .read-be-u16 .ensures))
     (λ c. rw (c .before .match .keys4, c .before .before .before .read-be-u32 .ensures, c .before .before .read-be-u322 .ensures, c .read-be-u323 .ensures))
     (λ c. rw (c .before .match .keys5, c .before .before .before .read-be-u32 .ensures, c .before .before .read-be-u322 .ensures, c .read-be-u324 .ensures))
-    (λ c. rw (c .before .before .match .keys6, c .before .before .before .before .read-be-u32 .ensures, c .before .before .before .read-be-u322 .ensures, c .before .read-be-u64 .ensures, c .read-be-u642 .ensures))
+    (λ c. let d = c .before .before in rw (d .match .keys6, d .before .before .read-be-u32 .ensures, d .before .read-be-u322 .ensures, c .before .read-be-u64 .ensures, c .read-be-u642 .ensures))
     returns-8)
