@@ -5,8 +5,9 @@ use mathlib.Core.Path.{_≡_, refl}
 use mathlib.Core.List.{List, [], _∷_, _++_, map}
 use lib.ListN.{length}
 use Rattle.format.specs.Bytes.{be32, be64}
-use Rattle.format.specs.Strip.{Entry, code}
+use Rattle.format.specs.Strip.{Entry, content, code}
 use Rattle.format.specs.Strip.Entry.{opens, closes, u8, u16, u32, ip4, ip6, bytes}
+use Rattle.format.specs.Strip.Shape.{opening, closing, valued, ranged}
 
 -- The bytes of a number of 32 or 64 bits, each by its weight.
 abbrev pub four : ℕ → List ℕ
@@ -43,7 +44,11 @@ be64-is n =
     let h : n % 4294967296 % 65536 % 256 ≡ n % 256 = omega arith in
     cc
 
--- The bytes of an entry of each kind with the id i, the start s and the end e.
+-- An entry of each kind, in the order of their numbers.
+abbrev oneOfEach : (i s e v h l : ℕ) → List Entry
+oneOfEach i s e v h l = opens i s e ∷ closes ∷ u8 i s e v ∷ u16 i s e v ∷ u32 i s e v ∷ ip4 i s e v ∷ ip6 i s e h l ∷ bytes i s e ∷ []
+
+-- The bytes of an entry of each kind with the id i, the start s and the end e; and its length, its shape and its range.
 pub record Kinds (i s e : ℕ) : Type 0 where
   pub open-entry : code (opens i s e) ≡ 1 ∷ i ∷ (four s ++ four e)
   pub close-entry : code closes ≡ 2 ∷ []
@@ -54,9 +59,12 @@ pub record Kinds (i s e : ℕ) : Type 0 where
   pub ip6-field : (h l : ℕ) → code (ip6 i s e h l) ≡ 7 ∷ i ∷ (four s ++ (four e ++ (eight h ++ eight l)))
   pub bytes-entry : code (bytes i s e) ≡ 8 ∷ i ∷ (four s ++ four e)
   -- the kind's byte, and as many of its body as the table says
-  pub lengths : (v h l : ℕ)
-      → map (λ (x : Entry). length (code x)) (opens i s e ∷ closes ∷ u8 i s e v ∷ u16 i s e v ∷ u32 i s e v ∷ ip4 i s e v ∷ ip6 i s e h l ∷ bytes i s e ∷ [])
-      ≡ (1 + 9) ∷ (1 + 0) ∷ (1 + 10) ∷ (1 + 11) ∷ (1 + 13) ∷ (1 + 13) ∷ (1 + 25) ∷ (1 + 9) ∷ []
+  pub lengths : (v h l : ℕ) → map (λ (x : Entry). length (code x)) (oneOfEach i s e v h l) ≡ (1 + 9) ∷ (1 + 0) ∷ (1 + 10) ∷ (1 + 11) ∷ (1 + 13) ∷ (1 + 13) ∷ (1 + 25) ∷ (1 + 9) ∷ []
+  -- what the claims of ranges, nesting and layout see of it
+  pub shapes : (v h l : ℕ) → map (λ (x : Entry). content x .shape) (oneOfEach i s e v h l) ≡ opening ∷ closing ∷ valued ∷ valued ∷ valued ∷ valued ∷ valued ∷ ranged ∷ []
+  pub ids : (v h l : ℕ) → map (λ (x : Entry). content x .id) (oneOfEach i s e v h l) ≡ i ∷ 0 ∷ i ∷ i ∷ i ∷ i ∷ i ∷ i ∷ []
+  pub starts : (v h l : ℕ) → map (λ (x : Entry). content x .start) (oneOfEach i s e v h l) ≡ s ∷ 0 ∷ s ∷ s ∷ s ∷ s ∷ s ∷ s ∷ []
+  pub ends : (v h l : ℕ) → map (λ (x : Entry). content x .end) (oneOfEach i s e v h l) ≡ e ∷ 0 ∷ e ∷ e ∷ e ∷ e ∷ e ∷ e ∷ []
 
 pub kinds : (i s e : ℕ) → Kinds i s e
 unfolding code
@@ -72,4 +80,8 @@ kinds i s e =
       ip6-field = λ h l. let r = be64-is h in let t = be64-is l in cc;
       bytes-entry = cc;
       lengths = λ v h l. refl;
+      shapes = λ v h l. refl;
+      ids = λ v h l. refl;
+      starts = λ v h l. refl;
+      ends = λ v h l. refl;
     }

@@ -16,7 +16,11 @@ put-u8-requires-2 c κs =
     omega arith
 
 returns : tie.Need-returns
-returns c = then (then (c .before .before .before .before .before .before .before .before .before .before .before .before .before .before .put-field .ensures .0) (then (c .before .before .before .before .before .before .before .before .before .before .put-u8 .ensures) (c .before .before .before .before .before .before .put-dotted .ensures))) (c .before .before .put-u82 .ensures)
+returns c =
+    let w = c .before .before .before .before .before .before .before .before .before .before .before .before .before .before .put-field .ensures .0 in
+    let x = c .before .before .before .before .before .before .before .before .before .before .put-u8 .ensures in
+    let y = c .before .before .before .before .before .before .put-dotted .ensures in
+    then (then w (then x y)) (c .before .before .put-u82 .ensures)
 
 pub put-ipv4-spec : {M : Type 1} → statement M
 put-ipv4-spec = tie.close (tie.spec (search needs) (search needs) (search needs) (search needs) put-u8-requires-2 (search needs) returns)

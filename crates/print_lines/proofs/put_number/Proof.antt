@@ -14,7 +14,10 @@ put-u8-requires c κs =
     omega arith
 
 returns : tie.Need-returns
-returns c = then (then (c .before .before .before .before .before .before .before .before .before .before .put-field .ensures .0) (c .before .before .before .before .before .before .put-spaced .ensures)) (c .before .before .put-u8 .ensures)
+returns c =
+    let w = c .before .before .before .before .before .before .before .before .before .before .put-field .ensures .0 in
+    let x = c .before .before .before .before .before .before .put-spaced .ensures in
+    then (then w x) (c .before .before .put-u8 .ensures)
 
 pub put-number-spec : {M : Type 1} → statement M
 put-number-spec = tie.close (tie.spec (search needs) (search needs) put-u8-requires (search needs) returns)

@@ -38,7 +38,8 @@ returns c =
     let x = c .before .before .before .before .before .before .before .before .before .before .before .before .before .before .put-spaced .ensures in
     let y = c .before .before .before .before .before .before .before .before .before .before .put-spaced2 .ensures in
     let z = c .before .before .before .before .before .before .put-spaced3 .ensures in
-    let e : c .before .before .before .before .before .before .before .before .before .before .before .before .before .before .before .before .before .before .before .before .before .before .args .answer .number ≡ 0 = omega arith in
+    let a = c .before .before .before .before .before .before .before .before .before .before .before .before .before .before .before .before .before .before .before .before .before .before .args .answer in
+    let e : a .number ≡ 0 = omega arith in
     rw (eq-eqb _ _ e) (then w (then x (then y (then z (c .before .before .put-u8 .ensures)))))
 
 pub put-ok-spec : {M : Type 1} → statement M

@@ -28,7 +28,8 @@ returns c =
     let w = c .before .before .before .before .before .before .before .before .before .before .before .before .before .before .before .put-word .ensures in
     let x = c .before .before .before .before .before .before .before .before .before .before .put-spaced .ensures in
     let y = c .before .before .before .before .before .before .put-spaced2 .ensures in
-    rw (ne-eqb (c .before .before .before .before .before .before .before .before .before .before .before .before .before .before .before .before .before .before .before .args .answer .number) 0 (λ z. omega arith)) (then w (then x (then y (c .before .before .put-u8 .ensures))))
+    let a = c .before .before .before .before .before .before .before .before .before .before .before .before .before .before .before .before .before .before .before .args .answer in
+    rw (ne-eqb (a .number) 0 (λ z. omega arith)) (then w (then x (then y (c .before .before .put-u8 .ensures))))
 
 pub put-refused-spec : {M : Type 1} → statement M
 put-refused-spec = tie.close (tie.spec

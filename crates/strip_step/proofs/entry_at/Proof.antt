@@ -5,9 +5,6 @@ use borrow.Author.Needs.{needs}
 use Rattle.strip_step.proofs.entry_at.Statement.{statement}
 use Rattle.strip_step.proofs.entry_at.Tie as tie
 
-returns : tie.Need-returns
-returns c = rw (c .if1 .taken)
-
 shared-slice-read-id : tie.Need-shared-slice-read-id
 shared-slice-read-id c = let s = c .before .before .before in let n = nine (s .args .kind) (s .pre .1) (c .before .if1 .left) in omega arith
 
@@ -17,51 +14,43 @@ read-be-u32-requires c κs = let s = c .before .before .before in let n = nine (
 read-be-u32-requires-2 : tie.Need-read-be-u32-requires-2
 read-be-u32-requires-2 c κs = let s = c .before .before .before .before in let n = nine (s .args .kind) (s .pre .1) (c .before .before .if1 .left) in omega arith
 
-shared-slice-read-t14 : tie.Need-shared-slice-read-t14
-shared-slice-read-t14 c = let h = rw (c .before .match .keys2) at (c .before .before .before .before .before .before .before .pre .0) in omega arith
-
-read-be-u16-requires : tie.Need-read-be-u16-requires
-read-be-u16-requires c κs = let h = rw (c .match .keys3) at (c .before .before .before .before .before .before .pre .0) in omega arith
-
-read-be-u32-requires-3 : tie.Need-read-be-u32-requires-3
-read-be-u32-requires-3 c κs = let h = rw (c .match .keys4) at (c .before .before .before .before .before .before .pre .0) in omega arith
-
-read-be-u32-requires-4 : tie.Need-read-be-u32-requires-4
-read-be-u32-requires-4 c κs = let h = rw (c .match .keys5) at (c .before .before .before .before .before .before .pre .0) in omega arith
-
-read-be-u64-requires : tie.Need-read-be-u64-requires
-read-be-u64-requires c κs = let h = rw (c .match .keys6) at (c .before .before .before .before .before .before .pre .0) in omega arith
-
-read-be-u64-requires-2 : tie.Need-read-be-u64-requires-2
-read-be-u64-requires-2 c κs = let h = rw (c .before .match .keys6) at (c .before .before .before .before .before .before .before .pre .0) in omega arith
-
-returns-2 : tie.Need-returns-2
-returns-2 c = rw (c .match .keys1, c .before .before .read-be-u32 .ensures, c .before .read-be-u322 .ensures)
-
-returns-3 : tie.Need-returns-3
-returns-3 c = rw (c .before .match .keys2, c .before .before .before .read-be-u32 .ensures, c .before .before .read-be-u322 .ensures)
-
-returns-4 : tie.Need-returns-4
-returns-4 c = rw (c .before .match .keys3, c .before .before .before .read-be-u32 .ensures, c .before .before .read-be-u322 .ensures, c .read-be-u16 .ensures)
-
-returns-5 : tie.Need-returns-5
-returns-5 c = rw (c .before .match .keys4, c .before .before .before .read-be-u32 .ensures, c .before .before .read-be-u322 .ensures, c .read-be-u323 .ensures)
-
-returns-6 : tie.Need-returns-6
-returns-6 c = rw (c .before .match .keys5, c .before .before .before .read-be-u32 .ensures, c .before .before .read-be-u322 .ensures, c .read-be-u324 .ensures)
-
-returns-7 : tie.Need-returns-7
-returns-7 c = rw (c .before .before .match .keys6, c .before .before .before .before .read-be-u32 .ensures, c .before .before .before .read-be-u322 .ensures, c .before .read-be-u64 .ensures, c .read-be-u642 .ensures)
-
+-- no other kind is left
 returns-8 : tie.Need-returns-8
 returns-8 c =
     let r = c .match .rest in
     let k = c .before .before .before .before .before .before .args .kind in
-    rw (ne-eqb k 1 (r .0 .0 .0 .0 .0 .1), ne-eqb k 2 (c .before .before .before .before .if1 .left), ne-eqb k 3 (r .0 .0 .0 .0 .1), ne-eqb k 4 (r .0 .0 .0 .1), ne-eqb k 5 (r .0 .0 .1), ne-eqb k 6 (r .0 .1), ne-eqb k 7 (r .1), c .before .before .read-be-u32 .ensures, c .before .read-be-u322 .ensures)
+    rw (
+      ne-eqb k 1 (r .0 .0 .0 .0 .0 .1),
+      ne-eqb k 2 (c .before .before .before .before .if1 .left),
+      ne-eqb k 3 (r .0 .0 .0 .0 .1),
+      ne-eqb k 4 (r .0 .0 .0 .1),
+      ne-eqb k 5 (r .0 .0 .1),
+      ne-eqb k 6 (r .0 .1),
+      ne-eqb k 7 (r .1),
+      c .before .before .read-be-u32 .ensures,
+      c .before .read-be-u322 .ensures,
+    )
 
+-- Of each value, that it lies in the body of its kind; then of each kind, that its entry is the one that is read.
 pub entry-at-spec : {M : Type 1} → statement M
 entry-at-spec = tie.close (tie.spec
-    returns shared-slice-read-id (search needs) read-be-u32-requires (search needs) read-be-u32-requires-2
-    (search needs) shared-slice-read-t14 (search needs) read-be-u16-requires (search needs) read-be-u32-requires-3
-    (search needs) read-be-u32-requires-4 (search needs) read-be-u64-requires (search needs) read-be-u64-requires-2
-    returns-2 returns-3 returns-4 returns-5 returns-6 returns-7 returns-8)
+    (λ c. rw (c .if1 .taken))
+    shared-slice-read-id (search needs) read-be-u32-requires (search needs) read-be-u32-requires-2 (search needs)
+    (λ c. let h = rw (c .before .match .keys2) at (c .before .before .before .before .before .before .before .pre .0) in omega arith)
+    (search needs)
+    (λ c κs. let h = rw (c .match .keys3) at (c .before .before .before .before .before .before .pre .0) in omega arith)
+    (search needs)
+    (λ c κs. let h = rw (c .match .keys4) at (c .before .before .before .before .before .before .pre .0) in omega arith)
+    (search needs)
+    (λ c κs. let h = rw (c .match .keys5) at (c .before .before .before .before .before .before .pre .0) in omega arith)
+    (search needs)
+    (λ c κs. let h = rw (c .match .keys6) at (c .before .before .before .before .before .before .pre .0) in omega arith)
+    (search needs)
+    (λ c κs. let h = rw (c .before .match .keys6) at (c .before .before .before .before .before .before .before .pre .0) in omega arith)
+    (λ c. rw (c .match .keys1, c .before .before .read-be-u32 .ensures, c .before .read-be-u322 .ensures))
+    (λ c. rw (c .before .match .keys2, c .before .before .before .read-be-u32 .ensures, c .before .before .read-be-u322 .ensures))
+    (λ c. rw (c .before .match .keys3, c .before .before .before .read-be-u32 .ensures, c .before .before .read-be-u322 .ensures, c .read-be-u16 .ensures))
+    (λ c. rw (c .before .match .keys4, c .before .before .before .read-be-u32 .ensures, c .before .before .read-be-u322 .ensures, c .read-be-u323 .ensures))
+    (λ c. rw (c .before .match .keys5, c .before .before .before .read-be-u32 .ensures, c .before .before .read-be-u322 .ensures, c .read-be-u324 .ensures))
+    (λ c. let d = c .before .before in rw (d .match .keys6, d .before .before .read-be-u32 .ensures, d .before .read-be-u322 .ensures, c .before .read-be-u64 .ensures, c .read-be-u642 .ensures))
+    returns-8)
