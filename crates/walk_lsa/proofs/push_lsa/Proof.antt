@@ -93,7 +93,7 @@ returns-3 c =
     let m = limits v d o 20 z in
     let size = c .before .before .before .before .before .measure-lsa .ensures .0 o in
     let w = walk-done n (lsaEntries v d o) 1 (lsaTail v d) before z (omega arith) in
-    (rw (w .0, ← size, c .before .before .before .before .before .measure-lsa .ensures .1 .0) refl, (c .before .before .push-lsa-fields .ensures .contents ∙ sym (w .1), omega (arith, lsa-size v d o (m .enough) (m .data-fits))))
+    (rw (w .0, ← size, c .before .before .before .before .before .measure-lsa .ensures .1) refl, (c .before .before .push-lsa-fields .ensures .contents ∙ sym (w .1), omega (arith, lsa-size v d o (m .enough) (m .data-fits))))
 
 pub push-lsa-spec : {M : Type 1} → statement M
 push-lsa-spec = tie.close (tie.spec
