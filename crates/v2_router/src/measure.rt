@@ -71,7 +71,6 @@ fn measure_link(body: &[u8], p: usize) -> usize
     requires { ⌜ p + 12 + getD (now body) (p + 9) 0 * 4 ≤ length (now body) ⌝ }
     requires { ⌜ length (now body) < 65536 ⌝ }
     ensures { λ r. ⌜ ((o n : ℕ) → r ≡ length (encode (link (now (body .entry)) o (record { at = p; len = n })))) ⌝ }
-    ensures { λ r. ⌜ r ≤ 9 * (12 + getD (now (body .entry)) (p + 9) 0 * 4) ⌝ }
 {
     let num_tos = body[p + 9] as usize;
     let metrics = measure_tos_metrics(num_tos, LINK_TOS_LENGTH);

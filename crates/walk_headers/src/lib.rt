@@ -57,7 +57,6 @@ pub fn push_lsa_headers(version: u8, data: &[u8], offset: u64, strip: &mut [u8])
 fn measure_header(version: u8, header: &[u8]) -> usize
     requires { ⌜ headerSize ≤ length (now header) ⌝ }
     ensures { λ r. ⌜ ((o : ℕ) → r ≡ length (encode (headerEntries version (now (header .entry)) o))) ⌝ }
-    ensures { λ r. ⌜ r ≤ 125 ⌝ }
 {
     if version == 2 {
         v2::measure_lsa_header_fields(header)

@@ -1,6 +1,6 @@
 // The walk over a single LSA, and the choice on the version for an LSA in an update.
 ghost use mathlib.Core.Path.{_≡_};
-ghost use Prim.Native.Nat.{ℕ, _+_, _*_, _≤_, _<_};
+ghost use Prim.Native.Nat.{ℕ, _+_, _≤_, _<_};
 ghost use lib.ListN.{length};
 ghost use Rattle.format.specs.Strip.{encode};
 ghost use Rattle.format.specs.Wrote.{Wrote};
@@ -42,7 +42,6 @@ pub fn measure_lsa(version: u8, lsa: &[u8]) -> Lsa
     requires { ⌜ length (now lsa) < 65536 ⌝ }
     ensures { λ r. ⌜ ((o : ℕ) → r .length ≡ length (encode (lsaEntries version (now (lsa .entry)) o))) ⌝ }
     ensures { λ r. ⌜ r .tail ≡ lsaTail version (now (lsa .entry)) ⌝ }
-    ensures { λ r. ⌜ r .length ≤ 18 * length (now (lsa .entry)) ⌝ }
 {
     if version == 2 {
         v2_lsa::measure::measure_lsa(&lsa[..])

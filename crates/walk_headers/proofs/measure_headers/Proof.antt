@@ -52,7 +52,7 @@ add-total-2 c =
     let s = c .before .before .before .before .before .args in
     let p = c .before .before .before .loop .pos in
     let q : p + 20 - p ≡ 20 = omega arith in
-    let m = rw q at (c .measure-header .ensures .0) in
+    let m = rw q at (c .measure-header .ensures) in
     omega (arith, next (c .before .before), length-header-object (s .version) (s .data .now) 0 p 20, m (0 + p))
 
 loop-again : tie.Need-loop-again Inv-loop μ-loop
@@ -62,7 +62,7 @@ loop-again c =
     let l = c .before .before .before .loop in
     let p = l .pos in
     let q : p + 20 - p ≡ 20 = omega arith in
-    let m = rw q at (c .measure-header .ensures .0) in (
+    let m = rw q at (c .measure-header .ensures) in (
       λ o.
           let t : l .total + 11 + c .measure-header .result ≡ l .total + length (encode (headerObject (s .version) d o (span p 20))) = omega (arith, length-header-object (s .version) d o p 20, m (o + p)) in
           rw t (measure-turn (fixedRule 20) (headerObject (s .version) d o) d _ 0 20 (l .inv .0 o) (c .before .before .loop-test .taken) (fixed-stands 20 d p (omega arith))),

@@ -49,7 +49,7 @@ returns-3 c =
     let m = passed q in
     let size = k .measure-lsa .ensures .0 (s .offset) in
     let small = lsa-size (s .version) (s .data .now) (s .offset) (m .enough) (m .data-fits) in
-    ends-done _ _ _ _ _ (q .before .refusal-of .ensures) (q .if1 .left) size (omega arith) (omega arith) refl (k .measure-lsa .ensures .1 .0) (c .before .before .push-lsa-fields .ensures)
+    ends-done _ _ _ _ _ (q .before .refusal-of .ensures) (q .if1 .left) size (omega arith) (omega arith) refl (k .measure-lsa .ensures .1) (c .before .before .push-lsa-fields .ensures)
 
 pub push-lsa-spec : {M : Type 1} → statement M
 push-lsa-spec = tie.close (tie.spec

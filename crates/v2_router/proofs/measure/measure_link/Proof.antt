@@ -17,7 +17,10 @@ returns c =
     let b = c .before .before .before .args .body .now in
     let p = c .before .before .before .args .p in
     let k = fixed-cut 4 b (getD b (p + 9) 0) (p + 12) (omega arith) .0 in
-    (λ o n. let e = c .measure-tos-metrics .ensures .0 69 (linkTos b o) o (p + 12) (linkTosSpans b p) (λ s. refl) k in let l = length-link b o (span p n) in omega arith, omega arith)
+    λ o n.
+    let e = c .measure-tos-metrics .ensures .0 69 (linkTos b o) o (p + 12) (linkTosSpans b p) (λ s. refl) k in
+    let l = length-link b o (span p n) in
+    omega arith
 
 pub measure-link-spec : {M : Type 1} → statement M
 measure-link-spec = tie.close (tie.spec

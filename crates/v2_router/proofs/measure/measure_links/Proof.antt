@@ -43,7 +43,7 @@ add-total c =
     let n = c .before .before .n .given .0 .0 in
     let k = c .before .before .before .before .before .before .before .before .args .count in
     let m = measure-room linkRule (link b 0) b k 4 n (l .inv .0 0) (omega arith) (fits (c .before)) in
-    omega (arith, c .measure-link .ensures .0 0 n, links-bound b 0 k 4)
+    omega (arith, c .measure-link .ensures 0 n, links-bound b 0 k 4)
 
 add-pos : tie.Need-add-pos Inv-loop μ-loop
 add-pos c =
@@ -55,7 +55,7 @@ loop-again c =
     let d = c .before in
     let l = c .before .before .before .before .before .before .loop in
     let h = link-inside _ _ _ (fits d) in
-    (λ o. rw (c .measure-link .ensures .0 o (c .before .before .n .given .0 .0)) (measure-turn linkRule _ _ _ 4 _ (l .inv .0 o) (omega arith) (fits d)), h .0)
+    (λ o. rw (c .measure-link .ensures o (c .before .before .n .given .0 .0)) (measure-turn linkRule _ _ _ 4 _ (l .inv .0 o) (omega arith) (fits d)), h .0)
 
 -- the sum of all is that of the definition, which is bounded
 summed : (b : List ℕ) (k total pos left : ℕ) → ((o : ℕ) → Measuring linkRule (link b o) b k 4 total pos left) → cut linkRule b left pos ≡ []
