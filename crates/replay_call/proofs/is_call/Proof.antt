@@ -23,20 +23,24 @@ returns c =
 returns-2 : tie.Need-returns-2
 unfolding isCall
 returns-2 c =
-    let s = c .before .before .before .before .before .before .before .args in
+    let k = c .before .before .before .before in
+    let s = k .before .before .before .args in
     let f = s .file .now in
-    let w = is-walk (walkAt f (s .pos)) (walk-of (walkNamed (walkAt f (s .pos))) _ _ (c .before .before .before .before .walk-named .ensures) (c .before .before .enum-told .given .1)) in
-    let z : s .size ≡ sizeAt f (s .pos) = c .before .before .before .before .before .before .before .pre .1 in
+    let n = walkAt f (s .pos) in
+    let w = is-walk n (walk-of (walkNamed n) _ _ (k .walk-named .ensures) (c .before .before .enum-told .given .1)) in
+    let z : s .size ≡ sizeAt f (s .pos) = k .before .before .before .pre .1 in
     let t = rw z at (c .if1 .taken) in
     rw (w, lt-leb (getD f (answerAt f (s .pos)) 0) 5 (omega arith))
 
 returns-3 : tie.Need-returns-3
 unfolding isCall
 returns-3 c =
-    let s = c .before .before .before .before .before .before .before .before .args in
+    let k = c .before .before .before .before .before in
+    let s = k .before .before .before .args in
     let f = s .file .now in
-    let w = is-walk (walkAt f (s .pos)) (walk-of (walkNamed (walkAt f (s .pos))) _ _ (c .before .before .before .before .before .walk-named .ensures) (c .before .before .before .enum-told .given .1)) in
-    let z : s .size ≡ sizeAt f (s .pos) = c .before .before .before .before .before .before .before .before .pre .1 in
+    let n = walkAt f (s .pos) in
+    let w = is-walk n (walk-of (walkNamed n) _ _ (k .walk-named .ensures) (c .before .before .before .enum-told .given .1)) in
+    let z : s .size ≡ sizeAt f (s .pos) = k .before .before .before .pre .1 in
     let t = rw z at (c .before .if1 .left) in
     rw (w, le-leb (getD f (answerAt f (s .pos)) 0) 5 (omega arith), c .read-be-u32 .ensures)
 
