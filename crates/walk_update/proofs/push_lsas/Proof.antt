@@ -26,8 +26,10 @@ loop-holds c = (begin recordRule _ _ _ 4 _ _ _ _ refl refl, omega arith)
 enum-told : tie.Need-enum-told Inv-loop μ-loop
 enum-told c = search needs
 
-fits : (c : tie.After-push-lsa-object-arg Inv-loop μ-loop) → recordRule (c .before .before .before .before .before .before .before .before .before .args .data .now) (c .before .before .before .before .before .before .loop .pos) ≡ some (c .before .before .n .given .0 .0)
-fits c = some-of _ _ (c .before .before .before .before .record-fits .result) (c .before .before .before .before .record-fits .ensures) (c .before .before .n .given .1)
+fits : (c : tie.After-push-lsa-object-arg Inv-loop μ-loop) →
+    let l = c .before .before .before .before .before .before in
+    recordRule (l .before .before .before .args .data .now) (l .loop .pos) ≡ some (c .before .before .n .given .0 .0)
+fits c = let k = c .before .before .before .before in some-of _ _ (k .record-fits .result) (k .record-fits .ensures) (c .before .before .n .given .1)
 
 push-lsa-object-requires : tie.Need-push-lsa-object-requires Inv-loop μ-loop
 unfolding spread
@@ -45,7 +47,8 @@ add-pos c =
 loop-again : tie.Need-loop-again Inv-loop μ-loop
 loop-again c =
     let d = c .before .before .before in
-    (turn recordRule _ _ _ 4 _ _ _ (c .before .before .before .before .before .before .before .before .before .loop .inv .0) (omega arith) (fits d) (c .before .before .push-lsa-object .ensures), inside 20 _ _ _ _ (fits d) .within)
+    let l = d .before .before .before .before .before .before .loop in
+    (turn recordRule _ _ _ 4 _ _ _ (l .inv .0) (omega arith) (fits d) (c .before .before .push-lsa-object .ensures), inside 20 _ _ _ _ (fits d) .within)
 
 same-length : tie.Need-same-length Inv-loop μ-loop
 same-length c = kept (c .before .loop .inv .0 .so-far)
@@ -61,7 +64,10 @@ same-length-2 c = kept (c .before .before .before .before .loop .inv .0 .so-far)
 
 returns-2 : tie.Need-returns-2 Inv-loop μ-loop
 unfolding spread
-returns-2 c = finish recordRule _ _ _ 4 _ _ (c .before .before .before .before .loop .inv .0) (cut-none recordRule _ _ _ (none-of _ (c .before .before .record-fits .result) (c .before .before .record-fits .ensures) (c .enum-told .given .1))) .0
+returns-2 c =
+    let k = c .before .before in
+    let none = none-of _ (k .record-fits .result) (k .record-fits .ensures) (c .enum-told .given .1) in
+    finish recordRule _ _ _ 4 _ _ (k .before .before .loop .inv .0) (cut-none recordRule _ _ _ none) .0
 
 pub push-lsas-spec : {M : Type 1} → statement M
 push-lsas-spec = tie.close (tie.spec
