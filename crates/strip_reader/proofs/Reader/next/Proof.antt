@@ -179,24 +179,27 @@ module _ {M : Type 1} (𝓤 : URA M) (H : Heap 𝓤) (A : Atoms 𝓤) (W : Given
           -- _2 = step_at(_3, _4)
           move ! (1 ∷ 5 ∷ []) $ use2 W (asked ⊛ kept) (apart 𝓤 H A mem run (α κ′) q′ h W (was .1 .1 .1 .0 .1)) $ split ! $
           calls-at ! fm (StepAt 𝓤 H A mem run) known-step to (and-then ! (load ! (from ! (stop !)) (look ! 10 refl)) (and-then ! (load ! (from ! (stop !)) (look ! 8 refl)) (no-more !))) (λ u.
-          answers W ! tt step-at.ended (step-at.clauses 𝓤 H A mem run) (κ′, tt) (h .strip, (h .place, tt)) tt token (λ r. S.the-row .own r (u ∷ [])) (λ r. r ≡ found h) (λ r e. id⊢ 𝓤 _) (λ r e.
+          answers W ! tt step-at.ended (step-at.clauses 𝓤 H A mem run) (κ′, tt) (h .strip, (h .place, tt)) tt token
+          (λ r. S.the-row .own r (u ∷ [])) (λ r. r ≡ found h) (λ r e. id⊢ 𝓤 _) (λ r e.
           -- [the step; 'a's token; what a Reader owns; the struct's cell; the open borrow; obs; auth; _5; …;
           -- _4; …; _3; …; room for _2; …; _1; …; room for _0; …]
           peeks ! S.the-row (Is S.the-row) (shows 𝓤 H A S.the-row) r (u ∷ []) (λ is.
           land ! (from ! (stop !)) (init ! 13 refl (EL.lawful S.the-type S′.the-laws 𝓤 H A W tt .typed r _ is .0)) $
-          -- _5 = place_after(_2, self.place)
+          -- _5 = self.place, _4 = place_after(_2, _5)
           assigns ! (of-opd ! (load ! (from ! (hop ! (look ! 15 refl) (fld ! refl (stop !)))) (look-in ! 3 (sub ! 1 refl (whole !))))) (from ! (stop !))
           (init ! 7 refl (tt, record { fits = was .1 .1 .1 .0 .1 })) $
           use1 W (raw (PlaceAfter .pre (to-place r u))) (goes-place r u (was .1 .1 .1 .0 .1)) $
           calls-at ! fm PlaceAfter known-place (to-place r u) (and-then ! (load ! (from ! (stop !)) (look ! 13 refl)) (and-then ! (load ! (from ! (stop !)) (look ! 7 refl)) (no-more !))) (λ w.
-          answers W ! tt place-after.ended (place-after.clauses 𝓤 H A mem run) tt (r, (h .place, tt)) tt (‵ ftrue) (λ n. usize .own n (w ∷ [])) (λ n. n ≡ placeAfter r (h .place)) (λ n e′. id⊢ 𝓤 _) (λ n e′.
+          answers W ! tt place-after.ended (place-after.clauses 𝓤 H A mem run) tt (r, (h .place, tt)) tt (‵ ftrue)
+          (λ n. usize .own n (w ∷ [])) (λ n. n ≡ placeAfter r (h .place)) (λ n e′. id⊢ 𝓤 _) (λ n e′.
           move ! (1 ∷ []) $ drop ! $
           -- [the number; 'a's token; what a Reader owns; the struct's cell; the open borrow; obs; auth; _5; …;
           -- _4; …; _3; …; _2; …; _1; …; room for _0; …]
           peeks ! usize (Is usize) (shows 𝓤 H A usize) n (w ∷ []) (λ is′.
           land ! (from ! (stop !)) (store ! 9 refl (uint-lawful 𝓤 H A W w64 .typed n _ is′ .0)) $ rewrite ! 9 (λ (y : Val). ‵ (fat fullShare (tyInt w64) l₄ 0 y)) (ap only (is′ .0)) refl $
           -- self.place = _4, _0 = _2
-          assigns ! (of-opd ! (load ! (from ! (stop !)) (look ! 9 refl))) (from ! (hop ! (look ! 15 refl) (fld ! refl (stop !)))) (store-in ! 3 (sub ! 1 refl (whole !)) (tt, record { fits = is′ .1 })) $
+          assigns ! (of-opd ! (load ! (from ! (stop !)) (look ! 9 refl))) (from ! (hop ! (look ! 15 refl) (fld ! refl (stop !))))
+          (store-in ! 3 (sub ! 1 refl (whole !)) (tt, record { fits = is′ .1 })) $
           assigns ! (of-opd ! (load ! (from ! (stop !)) (look ! 13 refl))) (from ! (stop !)) (init ! 17 refl (EL.lawful S.the-type S′.the-laws 𝓤 H A W tt .typed r _ is .0)) $
           -- the borrow is closed at the struct with the new number
           drop ! $ move ! (1 ∷ []) $ use1 W (‵ (ours n)) (again n (is′ .1)) $ move ! (2 ∷ []) $

@@ -107,7 +107,8 @@ module _ {M : Type 1} (𝓤 : URA M) (H : Heap 𝓤) (A : Atoms 𝓤) (W : Given
           move ! (9 ∷ []) $ fsplit ! $ move ! (1 ∷ []) $ drop ! $ move ! (0 ∷ 9 ∷ []) $
           use2 W (asked ⊛ kept) (apart 𝓤 H A mem run (α (κ, tt)) q d W (wt .1 .1 .0 .fits)) $ split ! $
           calls-at ! fm (StepAt 𝓤 H A mem run) known to (and-then ! (load ! (from ! (stop !)) (look ! 4 refl)) (and-then ! (load ! (from ! (stop !)) (look ! 2 refl)) (no-more !))) (λ u.
-          answers W ! tt callee.ended (callee.clauses 𝓤 H A mem run) (κ, tt) (d .strip, (d .place, tt)) tt token (λ r. S.the-row .own r (u ∷ [])) (λ r. r ≡ found d) (λ r e. id⊢ 𝓤 _) (λ r e.
+          answers W ! tt callee.ended (callee.clauses 𝓤 H A mem run) (κ, tt) (d .strip, (d .place, tt)) tt token
+          (λ r. S.the-row .own r (u ∷ [])) (λ r. r ≡ found d) (λ r e. id⊢ 𝓤 _) (λ r e.
           -- [the result; the token; what the struct owns; _3; …; _2; …; _1; …; room for _0; …]
           peeks ! S.the-row (Is S.the-row) (shows 𝓤 H A S.the-row) r (u ∷ []) (λ is.
           land ! (from ! (stop !)) (init ! 9 refl (EL.lawful S.the-type S′.the-laws 𝓤 H A W tt .typed r _ is .0)) $
