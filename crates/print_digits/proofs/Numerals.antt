@@ -1,13 +1,15 @@
--- How numbers and addresses are written, digit by digit, and how long they are.
+-- How numbers and addresses are written, digit by digit, how long they are, and the room that they leave.
 use Prim.Native.Nat.{ℕ, zero, suc, _+_, _-_, _/_, _%_, _≤_, _<_}
 use native.Mathlib.Omega.{arith}
 use mathlib.Core.Path.{_≡_, refl}
 use mathlib.Core.Bool.{Bool, true, false, cond}
-use mathlib.Core.List.{[], _∷_, _++_}
+use mathlib.Core.List.{List, [], _∷_, _++_}
 use lib.ListN.{length, length-append}
 use lib.Dec.{ltb}
 use borrow.Author.Tests.{lt-ltb, le-ltb}
 use Rattle.format.specs.Print.{digits, hexDigit, hex, spaced, dot, place, dotted}
+use Rattle.format.specs.Wrote.{Wrote}
+use Rattle.format.proofs.Wrote.{kept}
 
 pub digits-last : (n : ℕ) → digits 0 n ≡ (48 + n % 10) ∷ []
 unfolding digits
@@ -66,3 +68,7 @@ length-dotted a =
     let g = length-append (dot (a / 65536 % 256)) (dot (a / 256 % 256) ++ digits 19 (a % 256)) in
     let h = length-append (dot (a / 256 % 256)) (digits 19 (a % 256)) in
     omega arith
+
+-- A text of at most n bytes, written where there is room for n and m, leaves room for m.
+pub room-after : {l₀ l text : List ℕ} {at a : ℕ} (n m : ℕ) → Wrote l₀ at text l a → length text ≤ n → at + (n + m) ≤ length l₀ → a + m ≤ length l
+room-after n m w short room = let k = kept w in omega (arith, w .place)

@@ -65,10 +65,6 @@ first-fits a = pick (eqb (a .number) 0)
         let r = length-append (spaced (a .size)) newline in
         omega arith
 
--- After a text of at most n bytes, which was written where there was room for it and for k more, there is room for k.
-pub room-left : {before after text : List ℕ} {p r : ℕ} → Wrote before p text after r → (n k : ℕ) → length text ≤ n → p + (n + k) ≤ length before → r + k ≤ length after
-room-left w n k t h = let g = kept w in omega (arith, w .place)
-
 -- A text that was written to the front can be lent by itself.
 pub lendable : {before after text : List ℕ} {r : ℕ} → Wrote before 0 text after r → length text ≤ lineRoom → lineRoom ≤ length before
     → (r ≤ length after) × (r ≡ length (take r after))

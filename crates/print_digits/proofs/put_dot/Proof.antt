@@ -1,16 +1,12 @@
 use native.Mathlib.Omega.{arith}
-use Rattle.format.proofs.Wrote.{then, kept}
-use Rattle.print_digits.proofs.Numerals.{length-digits}
+use Rattle.format.proofs.Wrote.{then}
+use Rattle.print_digits.proofs.Numerals.{length-digits, room-after}
 use borrow.Author.Needs.{needs}
 use Rattle.print_digits.proofs.put_dot.Statement.{statement}
 use Rattle.print_digits.proofs.put_dot.Tie as tie
 
 put-u8-requires : tie.Need-put-u8-requires
-put-u8-requires c κs =
-    let w = c .before .before .before .put-digits .ensures in
-    let l = length-digits 19 (c .before .before .before .before .before .before .args .n) in
-    let g = kept w in
-    omega (arith, w .place)
+put-u8-requires c κs = let r = room-after 20 1 (c .before .before .before .put-digits .ensures) (length-digits 19 _) (omega arith) in omega arith
 
 returns : tie.Need-returns
 returns c = then (c .before .before .before .before .before .before .put-digits .ensures) (c .before .before .put-u8 .ensures)

@@ -1,46 +1,34 @@
 use native.Mathlib.Omega.{arith}
-use Prim.Native.Nat.{_/_, _%_}
-use Rattle.format.proofs.Wrote.{then, kept}
-use Rattle.print_digits.proofs.Numerals.{length-dot}
+use Rattle.format.proofs.Wrote.{then}
+use Rattle.print_digits.proofs.Numerals.{length-dot, room-after}
 use borrow.Author.Needs.{needs}
 use Rattle.print_digits.proofs.put_dotted.Statement.{statement}
 use Rattle.print_digits.proofs.put_dotted.Tie as tie
 
 put-dot-requires-2 : tie.Need-put-dot-requires-2
-put-dot-requires-2 c κs =
-    let a = c .before .before .before .before .before .before .args in
-    let w = c .before .before .before .put-dot .ensures in
-    let l = length-dot (a .address / 16777216) in
-    let g = kept w in
-    omega (arith, w .place)
+put-dot-requires-2 c κs = room-after 21 21 (c .before .before .before .put-dot .ensures) (length-dot _) (omega arith)
 
 put-dot-requires-3 : tie.Need-put-dot-requires-3
 put-dot-requires-3 c κs =
-    let a = c .before .before .before .before .before .before .before .before .before .before .args in
-    let w = c .before .before .before .before .before .before .before .put-dot .ensures in
-    let x = c .before .before .before .put-dot2 .ensures in
-    let l = length-dot (a .address / 16777216) in
-    let m = length-dot (a .address / 65536 % 256) in
-    let g = kept w in
-    let h = kept x in
-    omega (arith, w .place, x .place)
+    let k2 = c .before .before .before in
+    let r1 = room-after 21 42 (k2 .before .before .before .before .put-dot .ensures) (length-dot _) (omega arith) in
+    room-after 21 21 (k2 .put-dot2 .ensures) (length-dot _) r1
 
 put-digits-requires : tie.Need-put-digits-requires
 put-digits-requires c κs =
-    let a = c .before .before .before .before .before .before .before .before .before .before .before .before .before .before .args in
-    let w = c .before .before .before .before .before .before .before .before .before .before .before .put-dot .ensures in
-    let x = c .before .before .before .before .before .before .before .put-dot2 .ensures in
-    let y = c .before .before .before .put-dot3 .ensures in
-    let l = length-dot (a .address / 16777216) in
-    let m = length-dot (a .address / 65536 % 256) in
-    let n = length-dot (a .address / 256 % 256) in
-    let g = kept w in
-    let h = kept x in
-    let i = kept y in
-    omega (arith, w .place, x .place, y .place)
+    let k3 = c .before .before .before in
+    let k2 = k3 .before .before .before .before in
+    let r1 = room-after 21 62 (k2 .before .before .before .before .put-dot .ensures) (length-dot _) (omega arith) in
+    let r2 = room-after 21 41 (k2 .put-dot2 .ensures) (length-dot _) r1 in
+    room-after 21 20 (k3 .put-dot3 .ensures) (length-dot _) r2
 
 returns : tie.Need-returns
-returns c = then (c .before .before .before .before .before .before .before .before .before .before .before .before .before .before .put-dot .ensures) (then (c .before .before .before .before .before .before .before .before .before .before .put-dot2 .ensures) (then (c .before .before .before .before .before .before .put-dot3 .ensures) (c .before .before .put-digits .ensures)))
+returns c =
+    let k4 = c .before .before in
+    let k3 = k4 .before .before .before .before in
+    let k2 = k3 .before .before .before .before in
+    let k1 = k2 .before .before .before .before in
+    then (k1 .put-dot .ensures) (then (k2 .put-dot2 .ensures) (then (k3 .put-dot3 .ensures) (k4 .put-digits .ensures)))
 
 pub put-dotted-spec : {M : Type 1} → statement M
 put-dotted-spec = tie.close (tie.spec

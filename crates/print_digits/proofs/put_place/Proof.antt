@@ -1,30 +1,25 @@
 use native.Mathlib.Omega.{arith}
-use Rattle.format.proofs.Wrote.{then, kept}
-use Rattle.print_digits.proofs.Numerals.{length-spaced}
+use Rattle.format.proofs.Wrote.{then}
+use Rattle.print_digits.proofs.Numerals.{length-spaced, room-after}
 use borrow.Author.Needs.{needs}
 use Rattle.print_digits.proofs.put_place.Statement.{statement}
 use Rattle.print_digits.proofs.put_place.Tie as tie
 
 put-spaced-requires-2 : tie.Need-put-spaced-requires-2
-put-spaced-requires-2 c κs =
-    let w = c .before .before .before .put-spaced .ensures in
-    let l = length-spaced (c .before .before .before .before .before .before .args .id) in
-    let g = kept w in
-    omega (arith, w .place)
+put-spaced-requires-2 c κs = room-after 21 21 (c .before .before .before .put-spaced .ensures) (length-spaced _) (omega arith)
 
 put-spaced-requires-3 : tie.Need-put-spaced-requires-3
 put-spaced-requires-3 c κs =
-    let a = c .before .before .before .before .before .before .before .before .before .before .args in
-    let w = c .before .before .before .before .before .before .before .put-spaced .ensures in
-    let x = c .before .before .before .put-spaced2 .ensures in
-    let l = length-spaced (a .id) in
-    let m = length-spaced (a .start) in
-    let g = kept w in
-    let h = kept x in
-    omega (arith, w .place, x .place)
+    let k2 = c .before .before .before in
+    let r1 = room-after 21 42 (k2 .before .before .before .before .put-spaced .ensures) (length-spaced _) (omega arith) in
+    room-after 21 21 (k2 .put-spaced2 .ensures) (length-spaced _) r1
 
 returns : tie.Need-returns
-returns c = then (c .before .before .before .before .before .before .before .before .before .before .put-spaced .ensures) (then (c .before .before .before .before .before .before .put-spaced2 .ensures) (c .before .before .put-spaced3 .ensures))
+returns c =
+    let k3 = c .before .before in
+    let k2 = k3 .before .before .before .before in
+    let k1 = k2 .before .before .before .before in
+    then (k1 .put-spaced .ensures) (then (k2 .put-spaced2 .ensures) (k3 .put-spaced3 .ensures))
 
 pub put-place-spec : {M : Type 1} → statement M
 put-place-spec = tie.close (tie.spec (search needs) put-spaced-requires-2 put-spaced-requires-3 (search needs) returns)

@@ -1,40 +1,41 @@
 use native.Mathlib.Omega.{arith}
 use Rattle.format.proofs.Wrote.{then, kept}
-use Rattle.print_digits.proofs.Numerals.{length-hex}
-use Rattle.print_lines.proofs.Room.{room-left}
+use Rattle.print_digits.proofs.Numerals.{length-hex, room-after}
 use borrow.Author.Needs.{needs}
 use Rattle.print_lines.proofs.put_ipv6.Statement.{statement}
 use Rattle.print_lines.proofs.put_ipv6.Tie as tie
 
 put-hex-requires-2 : tie.Need-put-hex-requires-2
 put-hex-requires-2 c κs =
-    let w = c .before .before .before .before .before .before .before .before .before .before .before .put-field .ensures in
-    let x = c .before .before .before .before .before .before .before .put-u8 .ensures in
-    let y = c .before .before .before .put-hex .ensures in
-    let g = kept (w .0) in
-    let l = length-hex 16 (c .before .before .before .before .before .before .before .before .before .before .before .before .before .before .before .args .high) in
-    room-left y 16 16 (omega arith) (room-left x 1 32 (omega arith) (omega arith))
+    let k3 = c .before .before .before in
+    let k2 = k3 .before .before .before .before in
+    let l = length-hex 16 (k2 .before .before .before .before .before .before .before .before .args .high) in
+    let g = kept (k2 .before .before .before .before .put-field .ensures .0) in
+    let r2 = room-after 1 32 (k2 .put-u8 .ensures) (omega arith) (omega arith) in
+    room-after 16 16 (k3 .put-hex .ensures) (omega arith) r2
 
 put-u8-requires-2 : tie.Need-put-u8-requires-2
 put-u8-requires-2 c κs =
-    let a = c .before .before .before .before .before .before .before .before .before .before .before .before .before .before .before .before .before .before .before .args in
-    let w = c .before .before .before .before .before .before .before .before .before .before .before .before .before .before .before .put-field .ensures in
-    let x = c .before .before .before .before .before .before .before .before .before .before .before .put-u8 .ensures in
-    let y = c .before .before .before .before .before .before .before .put-hex .ensures in
-    let z = c .before .before .before .put-hex2 .ensures in
-    let g = kept (w .0) in
+    let k4 = c .before .before .before in
+    let k3 = k4 .before .before .before .before in
+    let k2 = k3 .before .before .before .before in
+    let a = k2 .before .before .before .before .before .before .before .before .args in
     let l = length-hex 16 (a .high) in
     let m = length-hex 16 (a .low) in
-    let r = room-left z 16 1 (omega arith) (room-left y 16 17 (omega arith) (room-left x 1 33 (omega arith) (omega arith))) in
+    let g = kept (k2 .before .before .before .before .put-field .ensures .0) in
+    let r2 = room-after 1 33 (k2 .put-u8 .ensures) (omega arith) (omega arith) in
+    let r3 = room-after 16 17 (k3 .put-hex .ensures) (omega arith) r2 in
+    let r = room-after 16 1 (k4 .put-hex2 .ensures) (omega arith) r3 in
     omega arith
 
 returns : tie.Need-returns
 returns c =
-    let w = c .before .before .before .before .before .before .before .before .before .before .before .before .before .before .before .before .before .before .put-field .ensures .0 in
-    let x = c .before .before .before .before .before .before .before .before .before .before .before .before .before .before .put-u8 .ensures in
-    let y = c .before .before .before .before .before .before .before .before .before .before .put-hex .ensures in
-    let z = c .before .before .before .before .before .before .put-hex2 .ensures in
-    then (then w (then x (then y z))) (c .before .before .put-u82 .ensures)
+    let k5 = c .before .before in
+    let k4 = k5 .before .before .before .before in
+    let k3 = k4 .before .before .before .before in
+    let k2 = k3 .before .before .before .before in
+    let k1 = k2 .before .before .before .before in
+    then (then (k1 .put-field .ensures .0) (then (k2 .put-u8 .ensures) (then (k3 .put-hex .ensures) (k4 .put-hex2 .ensures)))) (k5 .put-u82 .ensures)
 
 pub put-ipv6-spec : {M : Type 1} → statement M
 put-ipv6-spec = tie.close (tie.spec

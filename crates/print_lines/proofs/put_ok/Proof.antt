@@ -3,44 +3,47 @@ use mathlib.Core.Path.{_≡_}
 use borrow.Author.Tests.{eq-eqb}
 use Rattle.format.specs.Print.{firstLine}
 use Rattle.format.proofs.Wrote.{then}
-use Rattle.print_digits.proofs.Numerals.{length-spaced}
-use Rattle.print_lines.proofs.Room.{room-left}
+use Rattle.print_digits.proofs.Numerals.{length-spaced, room-after}
 use borrow.Author.Needs.{needs}
 use Rattle.print_lines.proofs.put_ok.Statement.{statement}
 use Rattle.print_lines.proofs.put_ok.Tie as tie
 
 put-spaced-requires-2 : tie.Need-put-spaced-requires-2
 put-spaced-requires-2 c κs =
-    let w = c .before .before .before .before .before .before .before .put-word .ensures in
-    let x = c .before .before .before .put-spaced .ensures in
-    room-left x 21 21 (length-spaced _) (room-left w 2 42 (omega arith) (omega arith))
+    let k2 = c .before .before .before in
+    let r1 = room-after 2 42 (k2 .before .before .before .before .put-word .ensures) (omega arith) (omega arith) in
+    room-after 21 21 (k2 .put-spaced .ensures) (length-spaced _) r1
 
 put-spaced-requires-3 : tie.Need-put-spaced-requires-3
 put-spaced-requires-3 c κs =
-    let w = c .before .before .before .before .before .before .before .before .before .before .before .put-word .ensures in
-    let x = c .before .before .before .before .before .before .before .put-spaced .ensures in
-    let y = c .before .before .before .put-spaced2 .ensures in
-    room-left y 21 21 (length-spaced _) (room-left x 21 42 (length-spaced _) (room-left w 2 63 (omega arith) (omega arith)))
+    let k3 = c .before .before .before in
+    let k2 = k3 .before .before .before .before in
+    let r1 = room-after 2 63 (k2 .before .before .before .before .put-word .ensures) (omega arith) (omega arith) in
+    let r2 = room-after 21 42 (k2 .put-spaced .ensures) (length-spaced _) r1 in
+    room-after 21 21 (k3 .put-spaced2 .ensures) (length-spaced _) r2
 
 put-u8-requires : tie.Need-put-u8-requires
 put-u8-requires c κs =
-    let w = c .before .before .before .before .before .before .before .before .before .before .before .before .before .before .before .put-word .ensures in
-    let x = c .before .before .before .before .before .before .before .before .before .before .before .put-spaced .ensures in
-    let y = c .before .before .before .before .before .before .before .put-spaced2 .ensures in
-    let z = c .before .before .before .put-spaced3 .ensures in
-    let r = room-left z 21 1 (length-spaced _) (room-left y 21 22 (length-spaced _) (room-left x 21 43 (length-spaced _) (room-left w 2 64 (omega arith) (omega arith)))) in
+    let k4 = c .before .before .before in
+    let k3 = k4 .before .before .before .before in
+    let k2 = k3 .before .before .before .before in
+    let k1 = k2 .before .before .before .before in
+    let r1 = room-after 2 64 (k1 .put-word .ensures) (omega arith) (omega (arith, k1 .before .before .before .before .pre .0)) in
+    let r2 = room-after 21 43 (k2 .put-spaced .ensures) (length-spaced _) r1 in
+    let r3 = room-after 21 22 (k3 .put-spaced2 .ensures) (length-spaced _) r2 in
+    let r = room-after 21 1 (k4 .put-spaced3 .ensures) (length-spaced _) r3 in
     omega arith
 
 returns : tie.Need-returns
 unfolding firstLine
 returns c =
-    let w = c .before .before .before .before .before .before .before .before .before .before .before .before .before .before .before .before .before .before .put-word .ensures in
-    let x = c .before .before .before .before .before .before .before .before .before .before .before .before .before .before .put-spaced .ensures in
-    let y = c .before .before .before .before .before .before .before .before .before .before .put-spaced2 .ensures in
-    let z = c .before .before .before .before .before .before .put-spaced3 .ensures in
-    let a = c .before .before .before .before .before .before .before .before .before .before .before .before .before .before .before .before .before .before .before .before .before .before .args .answer in
-    let e : a .number ≡ 0 = omega arith in
-    rw (eq-eqb _ _ e) (then w (then x (then y (then z (c .before .before .put-u8 .ensures)))))
+    let k5 = c .before .before in
+    let k4 = k5 .before .before .before .before in
+    let k3 = k4 .before .before .before .before in
+    let k2 = k3 .before .before .before .before in
+    let k1 = k2 .before .before .before .before in
+    let e : k1 .before .before .before .before .args .answer .number ≡ 0 = omega arith in
+    rw (eq-eqb _ _ e) (then (k1 .put-word .ensures) (then (k2 .put-spaced .ensures) (then (k3 .put-spaced2 .ensures) (then (k4 .put-spaced3 .ensures) (k5 .put-u8 .ensures)))))
 
 pub put-ok-spec : {M : Type 1} → statement M
 put-ok-spec = tie.close (tie.spec

@@ -2,34 +2,35 @@ use native.Mathlib.Omega.{arith}
 use borrow.Author.Tests.{ne-eqb}
 use Rattle.format.specs.Print.{firstLine}
 use Rattle.format.proofs.Wrote.{then}
-use Rattle.print_digits.proofs.Numerals.{length-spaced}
-use Rattle.print_lines.proofs.Room.{room-left}
+use Rattle.print_digits.proofs.Numerals.{length-spaced, room-after}
 use borrow.Author.Needs.{needs}
 use Rattle.print_lines.proofs.put_refused.Statement.{statement}
 use Rattle.print_lines.proofs.put_refused.Tie as tie
 
 put-spaced-requires-2 : tie.Need-put-spaced-requires-2
 put-spaced-requires-2 c κs =
-    let w = c .before .before .before .before .before .before .before .before .put-word .ensures in
-    let x = c .before .before .before .put-spaced .ensures in
-    room-left x 21 21 (length-spaced _) (room-left w 7 42 (omega arith) (omega arith))
+    let k2 = c .before .before .before in
+    let r1 = room-after 7 42 (k2 .before .before .before .before .before .put-word .ensures) (omega arith) (omega arith) in
+    room-after 21 21 (k2 .put-spaced .ensures) (length-spaced _) r1
 
 put-u8-requires : tie.Need-put-u8-requires
 put-u8-requires c κs =
-    let w = c .before .before .before .before .before .before .before .before .before .before .before .before .put-word .ensures in
-    let x = c .before .before .before .before .before .before .before .put-spaced .ensures in
-    let y = c .before .before .before .put-spaced2 .ensures in
-    let r = room-left y 21 1 (length-spaced _) (room-left x 21 22 (length-spaced _) (room-left w 7 43 (omega arith) (omega arith))) in
+    let k3 = c .before .before .before in
+    let k2 = k3 .before .before .before .before in
+    let r1 = room-after 7 43 (k2 .before .before .before .before .before .put-word .ensures) (omega arith) (omega arith) in
+    let r2 = room-after 21 22 (k2 .put-spaced .ensures) (length-spaced _) r1 in
+    let r = room-after 21 1 (k3 .put-spaced2 .ensures) (length-spaced _) r2 in
     omega arith
 
 returns : tie.Need-returns
 unfolding firstLine
 returns c =
-    let w = c .before .before .before .before .before .before .before .before .before .before .before .before .before .before .before .put-word .ensures in
-    let x = c .before .before .before .before .before .before .before .before .before .before .put-spaced .ensures in
-    let y = c .before .before .before .before .before .before .put-spaced2 .ensures in
-    let a = c .before .before .before .before .before .before .before .before .before .before .before .before .before .before .before .before .before .before .before .args .answer in
-    rw (ne-eqb (a .number) 0 (λ z. omega arith)) (then w (then x (then y (c .before .before .put-u8 .ensures))))
+    let k4 = c .before .before in
+    let k3 = k4 .before .before .before .before in
+    let k2 = k3 .before .before .before .before in
+    let k1 = k2 .before .before .before .before .before in
+    let n = k1 .before .before .before .before .args .answer .number in
+    rw (ne-eqb n 0 (λ z. omega arith)) (then (k1 .put-word .ensures) (then (k2 .put-spaced .ensures) (then (k3 .put-spaced2 .ensures) (k4 .put-u8 .ensures))))
 
 pub put-refused-spec : {M : Type 1} → statement M
 put-refused-spec = tie.close (tie.spec

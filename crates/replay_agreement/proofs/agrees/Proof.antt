@@ -10,11 +10,15 @@ use Rattle.replay_agreement.proofs.agrees.Statement.{statement}
 use Rattle.replay_agreement.proofs.agrees.Tie as tie
 
 slice-aggregate-agrees-in : tie.Need-slice-aggregate-agrees-in
-slice-aggregate-agrees-in c = sym (length-take-le (c .before .read-be-u32 .result) (c .before .before .before .before .args .strip .now) (omega arith))
+slice-aggregate-agrees-in c =
+    let room = c .before in
+    sym (length-take-le (room .read-be-u32 .result) (room .before .before .before .args .strip .now) (omega arith))
 
 agrees-in-requires : tie.Need-agrees-in-requires
 agrees-in-requires c κs =
-    (c .before .before .before .before .pre .0, sym (c .before .read-be-u32 .ensures) ∙ sym (length-take-le (c .before .read-be-u32 .result) (c .before .before .before .before .args .strip .now) (omega arith)))
+    let room = c .before in
+    let entry = room .before .before .before in
+    (entry .pre .0, sym (room .read-be-u32 .ensures) ∙ sym (length-take-le (room .read-be-u32 .result) (entry .args .strip .now) (omega arith)))
 
 -- the part that was lent, and the rest
 parts : (before : List ℕ) {x y : List ℕ} {m n : ℕ} → x ≡ y → m ≡ n → x ++ drop m before ≡ y ++ drop n before

@@ -10,37 +10,51 @@ use Rattle.replay_agreement.proofs.agrees_in.Statement.{statement}
 use Rattle.replay_agreement.proofs.agrees_in.Tie as tie
 
 -- the walk was called as the stored call says
-ran : (c : tie.After-slice-known3) → Ran (c .before .before .before .before .before .before .before .before .before .before .before .before .before .before .before .before .args .file .now) (c .before .before .before .before .before .before .before .before .before .before .before .before .before .before .before .before .args .pos) (c .before .before .before .before .before .before .before .before .before .before .before .before .before .read-be-u32 .result) (c .before .before .before .before .before .before .before .before .before .before .before .before .read-be-u322 .result) (c .before .before .before .before .before .before .before .before .before .before .before .read-be-u64 .result) (c .before .before .before .before .before .before .before .before .before .fill .last .0) (c .before .before .walk-by-number .last .1 .1 .1 .1 .1 .0) (c .before .before .walk-by-number .result)
-ran c = record {
-  sized = c .before .before .before .before .before .before .before .before .before .before .before .before .before .read-be-u32 .ensures;
-  counted = c .before .before .before .before .before .before .before .before .before .before .before .before .read-be-u322 .ensures;
-  placed = c .before .before .before .before .before .before .before .before .before .before .before .read-be-u64 .ensures;
-  filled = c .before .before .before .before .before .before .before .before .before .fill .ensures ∙ ap lent (sym (c .before .before .before .before .before .before .before .before .before .before .before .before .before .before .before .before .pre .1));
-  said = c .before .before .walk-by-number .ensures .0;
-  left = c .before .before .walk-by-number .ensures .1;
-}
+ran : (c : tie.After-slice-known3) →
+    let walk = c .before .before in
+    let fill = walk .before .before .before .before .before .before .before in
+    let offset = fill .before .before in
+    let count = offset .before in
+    let size = count .before in
+    let s = size .before .before .before .args in
+    Ran (s .file .now) (s .pos) (size .read-be-u32 .result) (count .read-be-u322 .result) (offset .read-be-u64 .result) (fill .fill .last .0) (walk .walk-by-number .last .1 .1 .1 .1 .1 .0) (walk .walk-by-number .result)
+ran c =
+    let walk = c .before .before in
+    let fill = walk .before .before .before .before .before .before .before in
+    let offset = fill .before .before in
+    let count = offset .before in
+    let size = count .before in
+    record {
+      sized = size .read-be-u32 .ensures;
+      counted = count .read-be-u322 .ensures;
+      placed = offset .read-be-u64 .ensures;
+      filled = fill .fill .ensures ∙ ap lent (sym (size .before .before .before .pre .1));
+      said = walk .walk-by-number .ensures .0;
+      left = walk .walk-by-number .ensures .1;
+    }
 
 returns : tie.Need-returns
 returns c =
-    let s = c .before .before .before .before .before .before .before .before .before .before .before .before .before .before .before .before .before .before .args in
     let r = ran (c .before .before) in
-    (sym (answer-differs (s .file .now) (s .pos) r (c .before .is-answer .ensures) (not-true _ (c .if1 .taken))), said-by (s .file .now) (s .pos) r .1)
+    (sym (answer-differs _ _ r (c .before .is-answer .ensures) (not-true _ (c .if1 .taken))), said-by _ _ r .1)
 
 is-buffer-requires : tie.Need-is-buffer-requires
 is-buffer-requires c κs =
-    let s = c .before .before .before .before .before .before .before .before .before .before .before .before .before .before .before .before .before .before .before .args .strip .now in
-    let f = c .before .before .before .before .before .before .before .before .before .before .before .before .before .before .before .before .before .before .before .args .file .now in
-    let p = c .before .before .before .before .before .before .before .before .before .before .before .before .before .before .before .before .before .before .before .args .pos in
-    let n : c .before .before .before .before .before .before .before .before .before .before .before .before .before .before .before .before .read-be-u32 .result ≡ sizeAt f p = c .before .before .before .before .before .before .before .before .before .before .before .before .before .before .before .before .read-be-u32 .ensures in
-    rw n (omega (arith, c .before .before .before .before .before .before .before .before .before .before .before .before .before .before .before .before .before .before .before .pre .0))
+    let size = c .before .before .before .before .before .before .before .before .before .before .before .before .before .before .before .before in
+    let entry = size .before .before .before in
+    let n : size .read-be-u32 .result ≡ sizeAt (entry .args .file .now) (entry .args .pos) = size .read-be-u32 .ensures in
+    rw n (omega (arith, entry .pre .0))
 
 returns-2 : tie.Need-returns-2
 returns-2 c =
-    let s = c .before .before .before .before .before .before .before .before .before .before .before .before .before .before .before .before .before .before .before .before .args in
-    let f = s .file .now in
-    let n : length (c .before .before .before .before .before .before .walk-by-number .last .1 .1 .1 .1 .1 .0) ≡ roomAt f (s .pos) = omega (arith, c .before .before .before .before .before .before .walk-by-number .kept, c .before .before .before .before .before .before .before .before .before .before .before .before .before .fill .kept, c .before .before .before .before .before .before .before .before .before .before .before .before .before .before .before .before .before .before .before .before .pre .1) in
+    let walk = c .before .before .before .before .before .before in
+    let fill = walk .before .before .before .before .before .before .before in
+    let entry = fill .before .before .before .before .before .before .before in
+    let f = entry .args .file .now in
+    let p = entry .args .pos in
+    let n : length (walk .walk-by-number .last .1 .1 .1 .1 .1 .0) ≡ roomAt f p = omega (arith, walk .walk-by-number .kept, fill .fill .kept, entry .pre .1) in
     let r = ran (c .before .before .before .before) in
-    (answer-agrees f (s .pos) r (c .before .before .before .is-answer .ensures) (not-false _ (c .before .before .if1 .left)) n (c .is-buffer .ensures), said-by f (s .pos) r .1)
+    (answer-agrees f p r (c .before .before .before .is-answer .ensures) (not-false _ (c .before .before .if1 .left)) n (c .is-buffer .ensures), said-by f p r .1)
 
 pub agrees-in-spec : {M : Type 1} → statement M
 agrees-in-spec = tie.close (tie.spec

@@ -1,10 +1,11 @@
 use native.Mathlib.Omega.{arith}
 use mathlib.Core.Path.{_≡_}
+use mathlib.Core.Bool.{true}
 use lib.ListN.{getD}
 use borrow.Author.Tests.{le-leb, lt-leb}
 use Rattle.format.specs.Walks.{walkNamed}
 use Rattle.walk_answer.proofs.Answers.{walk-of, no-walk-of}
-use Rattle.replay_call.specs.Stored.{isCall, walkAt, sizeAt, answerAt}
+use Rattle.replay_call.specs.Stored.{isWalk, isCall, walkAt, sizeAt, answerAt}
 use Rattle.replay_call.proofs.Rule.{is-walk, no-walk}
 use borrow.Author.Needs.{needs}
 use Rattle.replay_call.proofs.is_call.Statement.{statement}
@@ -20,25 +21,32 @@ returns c =
     let n = walkAt (s .file .now) (s .pos) in
     rw (no-walk n (no-walk-of (walkNamed n) _ (c .before .before .walk-named .ensures) (c .enum-told2 .given .1)))
 
+-- the number is a walk's
+named : (c : tie.After-shared-slice-known3) → let s = c .before .before .before .before .before .before .args in isWalk (walkAt (s .file .now) (s .pos)) ≡ true
+named c =
+    let s = c .before .before .before .before .before .before .args in
+    let n = walkAt (s .file .now) (s .pos) in
+    is-walk n (walk-of (walkNamed n) _ _ (c .before .before .before .walk-named .ensures) (c .before .enum-told .given .1))
+
 returns-2 : tie.Need-returns-2
 unfolding isCall
 returns-2 c =
-    let s = c .before .before .before .before .before .before .before .args in
-    let f = s .file .now in
-    let w = is-walk (walkAt f (s .pos)) (walk-of (walkNamed (walkAt f (s .pos))) _ _ (c .before .before .before .before .walk-named .ensures) (c .before .before .enum-told .given .1)) in
-    let z : s .size ≡ sizeAt f (s .pos) = c .before .before .before .before .before .before .before .pre .1 in
+    let entry = c .before .before .before .before .before .before .before in
+    let f = entry .args .file .now in
+    let p = entry .args .pos in
+    let z : entry .args .size ≡ sizeAt f p = entry .pre .1 in
     let t = rw z at (c .if1 .taken) in
-    rw (w, lt-leb (getD f (answerAt f (s .pos)) 0) 5 (omega arith))
+    rw (named (c .before), lt-leb (getD f (answerAt f p) 0) 5 (omega arith))
 
 returns-3 : tie.Need-returns-3
 unfolding isCall
 returns-3 c =
-    let s = c .before .before .before .before .before .before .before .before .args in
-    let f = s .file .now in
-    let w = is-walk (walkAt f (s .pos)) (walk-of (walkNamed (walkAt f (s .pos))) _ _ (c .before .before .before .before .before .walk-named .ensures) (c .before .before .before .enum-told .given .1)) in
-    let z : s .size ≡ sizeAt f (s .pos) = c .before .before .before .before .before .before .before .before .pre .1 in
+    let entry = c .before .before .before .before .before .before .before .before in
+    let f = entry .args .file .now in
+    let p = entry .args .pos in
+    let z : entry .args .size ≡ sizeAt f p = entry .pre .1 in
     let t = rw z at (c .before .if1 .left) in
-    rw (w, le-leb (getD f (answerAt f (s .pos)) 0) 5 (omega arith), c .read-be-u32 .ensures)
+    rw (named (c .before .before), le-leb (getD f (answerAt f p) 0) 5 (omega arith), c .read-be-u32 .ensures)
 
 pub is-call-spec : {M : Type 1} → statement M
 is-call-spec = tie.close (tie.spec

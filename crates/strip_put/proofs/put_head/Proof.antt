@@ -7,9 +7,12 @@ use Rattle.strip_put.proofs.put_head.Tie as tie
 
 returns : tie.Need-returns
 returns c =
-    let a = c .before .before .before .before .before .before .before .before .before .before .before .before .before .before .args in
-    let w = rw (c .before .before .before .swap-u64 .ensures) at (c .before .before .put-le64 .ensures) in
-    then (then (c .before .before .before .before .before .before .before .before .before .before .before .put-u8 .ensures) (c .before .before .before .before .before .before .before .put-u82 .ensures)) (written-as (swapped-pair (a .start) (a .end) (omega arith) (omega arith)) w)
+    let k3 = c .before .before in
+    let k2 = k3 .before .before .before .before .before in
+    let k1 = k2 .before .before .before .before in
+    let a = k1 .before .before .before .args in
+    let w = rw (k3 .before .swap-u64 .ensures) at (k3 .put-le64 .ensures) in
+    then (then (k1 .put-u8 .ensures) (k2 .put-u82 .ensures)) (written-as (swapped-pair (a .start) (a .end) (omega arith) (omega arith)) w)
 
 pub put-head-spec : {M : Type 1} → statement M
 put-head-spec = tie.close (tie.spec (search needs) (search needs) (search needs) (search needs) (search needs) (search needs) (search needs) returns)

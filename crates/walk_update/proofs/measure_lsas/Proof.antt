@@ -27,8 +27,10 @@ abbrev μ-loop : tie.MeasureT-loop
 loop-holds : tie.Need-loop-holds Inv-loop μ-loop
 loop-holds c = (λ o. measure-begin recordRule _ _ _ 4, omega arith, omega arith)
 
-fits : (c : tie.After-known-told Inv-loop μ-loop) → recordRule (c .before .before .before .before .before .before .before .args .data .now) (c .before .before .before .before .before .loop .pos) ≡ some (c .before .n .given .0 .0)
-fits c = some-of _ _ (c .before .before .before .record-fits .result) (c .before .before .before .record-fits .ensures) (c .before .n .given .1)
+fits : (c : tie.After-known-told Inv-loop μ-loop) →
+    let l = c .before .before .before .before .before in
+    recordRule (l .before .before .args .data .now) (l .loop .pos) ≡ some (c .before .n .given .0 .0)
+fits c = let k = c .before .before .before in some-of _ _ (k .record-fits .result) (k .record-fits .ensures) (c .before .n .given .1)
 
 add-q : tie.Need-add-q Inv-loop μ-loop
 add-q c =
@@ -96,7 +98,9 @@ loop-again c =
     let l = c .before .before .before .before .before .before .before .before .loop in
     let a = rw q at (c .before .measure-lsa .ensures .0) in (
       λ o.
-          let t : l .total + 11 + c .before .measure-lsa .result .length ≡ l .total + length (encode (lsaObject (s .version) d o (span p n))) = omega (arith, length-lsa-object (s .version) d o p n, a (o + p)) in
+          let t : l .total + 11 + c .before .measure-lsa .result .length ≡ l .total + length (encode (lsaObject (s .version) d o (span p n))) =
+          omega (arith, length-lsa-object (s .version) d o p n, a (o + p))
+          in
           rw t (measure-turn recordRule (lsaObject (s .version) d o) d _ 4 n (l .inv .0 o) (omega arith) (fits (c .before .before .before))),
       h .within,
       omega arith,

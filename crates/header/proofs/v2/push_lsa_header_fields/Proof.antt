@@ -17,14 +17,20 @@ push-opaque-fields-requires c κs =
 returns : tie.Need-returns
 unfolding headerEntries2 encode code
 returns c =
-    let t = sym (c .before .before .before .before .before .is-opaque .ensures) ∙ c .before .before .before .before .if1 .taken in
-    rw t (then (then (c .before .before .before .before .before .before .before .before .before .before .before .before .before .push-identity-fields .ensures) (c .before .before .before .before .before .before .before .before .before .push-instance-fields .ensures)) (c .before .before .push-opaque-fields .ensures))
+    let k3 = c .before .before in
+    let asked = k3 .before .before .before in
+    let k2 = asked .before .before .before .before in
+    let k1 = k2 .before .before .before .before in
+    let t = sym (asked .is-opaque .ensures) ∙ k3 .before .before .if1 .taken in
+    rw t (then (then (k1 .push-identity-fields .ensures) (k2 .push-instance-fields .ensures)) (k3 .push-opaque-fields .ensures))
 
 returns-2 : tie.Need-returns-2
 unfolding headerEntries2 encode code
 returns-2 c =
     let t = sym (c .before .is-opaque .ensures) ∙ c .if1 .left in
-    rw t (then (c .before .before .before .before .before .before .before .before .before .push-identity-fields .ensures) (c .before .before .before .before .before .push-instance-fields .ensures))
+    let k2 = c .before .before .before .before .before in
+    let k1 = k2 .before .before .before .before in
+    rw t (then (k1 .push-identity-fields .ensures) (k2 .push-instance-fields .ensures))
 
 pub push-lsa-header-fields-spec : {M : Type 1} → statement M
 unfolding headerEntries2 encode code
