@@ -52,6 +52,28 @@ const AGE_REFUSED: u8 = 11;
 impl LsaHeader {
     // The header's length in bytes (RFC 2328 A.4.1).
     pub const SIZE: usize = 20;
+    // Where its fields lie: those of both versions, and those that are in one alone.
+    pub const AGE_AT: usize = 0;
+
+    pub const LINK_STATE_ID_AT: usize = 4;
+
+    pub const ADVERTISING_ROUTER_AT: usize = 8;
+
+    pub const SEQUENCE_NUMBER_AT: usize = 12;
+
+    pub const CHECKSUM_AT: usize = 16;
+
+    pub const LENGTH_AT: usize = 18;
+
+    pub const V2_OPTIONS_AT: usize = 2;
+
+    pub const V2_TYPE_AT: usize = 3;
+
+    pub const V2_OPAQUE_TYPE_AT: usize = 4;
+
+    pub const V2_OPAQUE_ID_AT: usize = 5;
+
+    pub const V3_TYPE_AT: usize = 2;
     // MaxAge and MaxAgeDiff, in seconds (RFC 2328 appendix B).
     pub const MAX_AGE: u16 = 3600;
 
@@ -79,7 +101,7 @@ impl LsaHeader {
         requires { ⌜ headerSize ≤ length (now body) ⌝ }
         ensures { λ r. ⌜ r ≡ headerOf (header2 (now (body .entry))) ⌝ }
     {
-        LsaHeader::with_type(body[3] as u16, body)
+        LsaHeader::with_type(body[LsaHeader::V2_TYPE_AT] as u16, body)
     }
 
     // The header of a version 3 LSA (RFC 5340 A.4.2).
@@ -87,7 +109,7 @@ impl LsaHeader {
         requires { ⌜ headerSize ≤ length (now body) ⌝ }
         ensures { λ r. ⌜ r ≡ headerOf (header3 (now (body .entry))) ⌝ }
     {
-        LsaHeader::with_type(read_be_u16(body, 2), body)
+        LsaHeader::with_type(read_be_u16(body, LsaHeader::V3_TYPE_AT), body)
     }
 
     fn with_type(ls_type: u16, body: &[u8]) -> LsaHeader
@@ -95,13 +117,13 @@ impl LsaHeader {
         ensures { λ r. ⌜ r ≡ headerOf (headerWith «ls_type» (now (body .entry))) ⌝ }
     {
         LsaHeader {
-            age: read_be_u16(body, 0),
+            age: read_be_u16(body, LsaHeader::AGE_AT),
             ls_type,
-            link_state_id: read_be_u32(body, 4),
-            advertising_router: read_ipv4_addr(body, 8),
-            sequence_number: read_be_u32(body, 12),
-            checksum: read_be_u16(body, 16),
-            length: read_be_u16(body, 18),
+            link_state_id: read_be_u32(body, LsaHeader::LINK_STATE_ID_AT),
+            advertising_router: read_ipv4_addr(body, LsaHeader::ADVERTISING_ROUTER_AT),
+            sequence_number: read_be_u32(body, LsaHeader::SEQUENCE_NUMBER_AT),
+            checksum: read_be_u16(body, LsaHeader::CHECKSUM_AT),
+            length: read_be_u16(body, LsaHeader::LENGTH_AT),
         }
     }
 }
@@ -116,9 +138,9 @@ fn push_instance_fields(strip: &mut [u8], at: usize, id: u8, body: &[u8], o: u32
     requires { ⌜ o + length (now body) < 4294967296 ⌝ }
     ensures { λ r. ⌜ Wrote (now (strip .entry)) at (encode (instanceEntries id (now (body .entry)) o)) (now (strip .exit)) r ⌝ }
 {
-    let a = push_u32_at(strip, at, id, body, 12, o);
-    let b = push_u16_at(strip, a, id + 1, body, 16, o);
-    push_u16_at(strip, b, id + 2, body, 18, o)
+    let a = push_u32_at(strip, at, id, body, LsaHeader::SEQUENCE_NUMBER_AT, o);
+    let b = push_u16_at(strip, a, id + 1, body, LsaHeader::CHECKSUM_AT, o);
+    push_u16_at(strip, b, id + 2, body, LsaHeader::LENGTH_AT, o)
 }
 
 // The place of a sequence number in the signed order.

@@ -34,7 +34,7 @@ pub fn measure_lsa_header_fields(body: &[u8]) -> usize
     requires { ⌜ headerSize ≤ length (now body) ⌝ }
     ensures { λ r. ⌜ ((o : ℕ) → r ≡ length (encode (headerEntries2 (now (body .entry)) o))) ⌝ }
 {
-    if is_opaque(body[3]) {
+    if is_opaque(body[LsaHeader::V2_TYPE_AT]) {
         OPAQUE_FIELDS_LENGTH
     } else {
         FIELDS_LENGTH
@@ -51,7 +51,7 @@ pub fn push_lsa_header_fields(strip: &mut [u8], at: usize, body: &[u8], o: u32) 
     let header = &body[..];
     let a = push_identity_fields(strip, at, header, o);
     let b = push_instance_fields(strip, a, v2::LS_SEQUENCE_NUMBER, header, o);
-    if is_opaque(header[3]) {
+    if is_opaque(header[LsaHeader::V2_TYPE_AT]) {
         push_opaque_fields(strip, b, header, o)
     } else {
         b
@@ -74,11 +74,25 @@ fn push_identity_fields(strip: &mut [u8], at: usize, body: &[u8], o: u32) -> usi
     requires { ⌜ o + length (now body) < 4294967296 ⌝ }
     ensures { λ r. ⌜ Wrote (now (strip .entry)) at (encode (identityEntries2 (now (body .entry)) o)) (now (strip .exit)) r ⌝ }
 {
-    let a = push_u16_at(strip, at, v2::LS_AGE, body, 0, o);
-    let b = push_u8_at(strip, a, v2::OPTIONS, body, 2, o);
-    let c = push_u8_at(strip, b, v2::LS_TYPE, body, 3, o);
-    let d = push_ipv4_at(strip, c, v2::LINK_STATE_ID, body, 4, o);
-    push_ipv4_at(strip, d, v2::ADVERTISING_ROUTER, body, 8, o)
+    let a = push_u16_at(strip, at, v2::LS_AGE, body, LsaHeader::AGE_AT, o);
+    let b = push_u8_at(strip, a, v2::OPTIONS, body, LsaHeader::V2_OPTIONS_AT, o);
+    let c = push_u8_at(strip, b, v2::LS_TYPE, body, LsaHeader::V2_TYPE_AT, o);
+    let d = push_ipv4_at(
+        strip,
+        c,
+        v2::LINK_STATE_ID,
+        body,
+        LsaHeader::LINK_STATE_ID_AT,
+        o,
+    );
+    push_ipv4_at(
+        strip,
+        d,
+        v2::ADVERTISING_ROUTER,
+        body,
+        LsaHeader::ADVERTISING_ROUTER_AT,
+        o,
+    )
 }
 
 // The Link State ID of an opaque LSA, as its two parts.
@@ -88,6 +102,13 @@ fn push_opaque_fields(strip: &mut [u8], at: usize, body: &[u8], o: u32) -> usize
     requires { ⌜ o + length (now body) < 4294967296 ⌝ }
     ensures { λ r. ⌜ Wrote (now (strip .entry)) at (encode (opaqueEntries (now (body .entry)) o)) (now (strip .exit)) r ⌝ }
 {
-    let a = push_u8_at(strip, at, v2::OPAQUE_TYPE, body, 4, o);
-    push_u24_at(strip, a, v2::OPAQUE_ID, body, 5, o)
+    let a = push_u8_at(
+        strip,
+        at,
+        v2::OPAQUE_TYPE,
+        body,
+        LsaHeader::V2_OPAQUE_TYPE_AT,
+        o,
+    );
+    push_u24_at(strip, a, v2::OPAQUE_ID, body, LsaHeader::V2_OPAQUE_ID_AT, o)
 }

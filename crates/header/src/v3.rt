@@ -55,8 +55,22 @@ fn push_identity_fields(strip: &mut [u8], at: usize, body: &[u8], o: u32) -> usi
     requires { ⌜ o + length (now body) < 4294967296 ⌝ }
     ensures { λ r. ⌜ Wrote (now (strip .entry)) at (encode (identityEntries3 (now (body .entry)) o)) (now (strip .exit)) r ⌝ }
 {
-    let a = push_u16_at(strip, at, v3::LS_AGE, body, 0, o);
-    let b = push_u16_at(strip, a, v3::LS_TYPE, body, 2, o);
-    let c = push_u32_at(strip, b, v3::LINK_STATE_ID, body, 4, o);
-    push_ipv4_at(strip, c, v3::ADVERTISING_ROUTER, body, 8, o)
+    let a = push_u16_at(strip, at, v3::LS_AGE, body, LsaHeader::AGE_AT, o);
+    let b = push_u16_at(strip, a, v3::LS_TYPE, body, LsaHeader::V3_TYPE_AT, o);
+    let c = push_u32_at(
+        strip,
+        b,
+        v3::LINK_STATE_ID,
+        body,
+        LsaHeader::LINK_STATE_ID_AT,
+        o,
+    );
+    push_ipv4_at(
+        strip,
+        c,
+        v3::ADVERTISING_ROUTER,
+        body,
+        LsaHeader::ADVERTISING_ROUTER_AT,
+        o,
+    )
 }

@@ -71,7 +71,7 @@ fn record_fits(data: &[u8], pos: usize) -> Length
     if left < LsaHeader::SIZE {
         return Length::Nothing;
     }
-    let n = read_be_u16(data, pos + 18) as usize;
+    let n = read_be_u16(data, pos + LsaHeader::LENGTH_AT) as usize;
     if n < LsaHeader::SIZE {
         return Length::Nothing;
     }
