@@ -1,5 +1,5 @@
--- What the walks of the reader's functions share: how a walk meets a contract, a call that has answered, and the call of
--- `step_at` on a reader's slice and number.
+-- What the walks of the reader's functions share: how a walk meets a contract, a call that has answered, and the call
+-- of `step_at` on a reader's slice and number.
 -- Assumes nothing.
 use mathlib.Core.Path.{_≡_, refl}
 use Prim.Native.Nat.{_<_, _^_}

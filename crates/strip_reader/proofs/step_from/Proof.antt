@@ -172,7 +172,7 @@ module _ {M : Type 1} (𝓤 : URA M) (H : Heap 𝓤) (A : Atoms 𝓤) (W : Given
           calls-at ! fm At known-at (to-at r u) (and-then ! (load ! (from ! (stop !)) (look ! 2 refl)) (and-then ! (load ! (from ! (stop !)) (look ! 6 refl)) (no-more !))) (λ u₂.
           answers W ! tt at.ended (at.clauses 𝓤 H A mem run) (κ, tt) (r, (n, tt)) tt token
           (λ r₂. ours r₂ u₂) (λ r₂. (r₂ .strip ≡ r .strip) × (r₂ .place ≡ n)) (λ r₂ e₂. id⊢ 𝓤 _) (λ r₂ e₂.
-          -- [what the second struct owns; the token; what s owns; _4; …; room for _3; …; _2; …; _1; …; room for _0; …]
+          -- [what the second owns; the token; what s owns; _4; …; room for _3; …; _2; …; _1; …; room for _0; …]
           peeks ! B (Is B) (shows 𝓤 H A B) r₂ (u₂ ∷ []) (λ is₂.
           land ! (from ! (stop !)) (init ! 5 refl (LL.lawful (T.the-type αᵉ) (T′.the-laws αᵉ) 𝓤 H A W .typed r₂ _ is₂ .0)) $
           -- _0 = _3.step()
