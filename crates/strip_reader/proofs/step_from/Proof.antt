@@ -21,12 +21,12 @@ use contract.Running.{givenOf, tables, tablesOf}
 use types.Kit.{Given, Item, ‵, raw, _⊛_, ⋆, _$_, _∵_, !, qed, by, move, drop, use1, use2, split, join, fsplit, fjoin, suffices, frame, done}
 use types.Run.{look, init, forget, stop, from, load, and-then, no-more, land, returns, enter, alloc1, alloc0, params1, pass1, pass0, free1, free0}
 use sound.WpLaws.{FmC, fmOf}
-use denote.RattleType.{RattleType, owns}
+use denote.RattleType.{owns}
 use denote.Laws.{Is, shows}
 use denote.Plain.{uint-vals, uint-tells, uint-makes}
 use denote.Builtin.{u8, usize}
 use denote.Ref.{RefT, NamedLft, now}
-use denote.Signature.{plain, namedLft}
+use denote.Signature.{plain}
 use denote.Slice.{sliceVal, ShrSlice, slice-vals, shr-slice-tells, shr-slice-lawful, shr-slice-copy}
 use denote.Steps.{peeks, nothing, owned}
 use denote.Enum.Laws as EL
@@ -58,7 +58,7 @@ use Rattle.strip_reader.proofs.Reader.step as step
 use Rattle.strip_reader.proofs.Reader.step.Symbol as step-def
 use Rattle.strip_reader.proofs.Reader.step.Symbol.{name as #Reader·step}
 use Rattle.strip_reader.proofs.Reader.step.Met as step-thm
-use Rattle.strip_reader.proofs.States.{meets, found, answers}
+use Rattle.strip_reader.proofs.States.{B, meets, found, answers}
 use Rattle.strip_reader.proofs.step_from.Key.{name as #step-from}
 use Rattle.strip_reader.proofs.step_from as step-from
 use Rattle.strip_reader.proofs.step_from.Statement as stated
@@ -102,15 +102,12 @@ module _ {M : Type 1} (𝓤 : URA M) (H : Heap 𝓤) (A : Atoms 𝓤) (W : Given
     abbrev Own : Fml
     Own = ShrSlice (named 0) κ u8 .own s (v ∷ [])
 
-    -- the struct's type, as a signature and as a local of a body has it, and what a struct owns
-    abbrev B : RattleType
-    B = T.the-row (namedLft 1 0 tt (κ, tt))
-
+    -- the struct's lifetime as a local of a body has it, and what a struct owns
     abbrev αᵉ : NamedLft
     αᵉ = record { mir = erased; lft = κ }
 
     abbrev ours : Reader → Val → Fml
-    ours r u = B .own r (u ∷ [])
+    ours r u = B (κ, tt) .own r (u ∷ [])
 
     -- the call of `new`
     abbrev to-new : New .Ghost
@@ -164,8 +161,8 @@ module _ {M : Type 1} (𝓤 : URA M) (H : Heap 𝓤) (A : Atoms 𝓤) (W : Given
           move ! (10 ∷ []) $ use1 W (raw (New .pre to-new) ⊛ ‵ Own) goes-new $ split ! $
           calls-at ! fm New known-new to-new (and-then ! (load ! (from ! (stop !)) (look ! 8 refl)) (no-more !)) (λ u.
           answers W ! tt new.ended (new.clauses 𝓤 H A mem run) (κ, tt) (s, tt) tt token (λ r. ours r u) (λ r. (r .strip ≡ s) × (r .place ≡ 0)) (λ r e. id⊢ 𝓤 _) (λ r e.
-          -- [what the struct owns; the token; what s owns; room for _4; …; room for _3; …; _2; …; _1; …; room for _0; …]
-          peeks ! B (Is B) (shows 𝓤 H A B) r (u ∷ []) (λ is.
+          -- [what it owns; the token; what s owns; room for _4; …; room for _3; …; _2; …; _1; …; room for _0; …]
+          peeks ! (B (κ, tt)) (Is (B (κ, tt))) (shows 𝓤 H A (B (κ, tt))) r (u ∷ []) (λ is.
           land ! (from ! (stop !)) (init ! 3 refl (LL.lawful (T.the-type αᵉ) (T′.the-laws αᵉ) 𝓤 H A W .typed r _ is .0)) $
           -- _3 = _4.at(_2)
           use2 W (raw (At .pre (to-at r u))) (goes-at r u) $
@@ -173,7 +170,7 @@ module _ {M : Type 1} (𝓤 : URA M) (H : Heap 𝓤) (A : Atoms 𝓤) (W : Given
           answers W ! tt at.ended (at.clauses 𝓤 H A mem run) (κ, tt) (r, (n, tt)) tt token
           (λ r₂. ours r₂ u₂) (λ r₂. (r₂ .strip ≡ r .strip) × (r₂ .place ≡ n)) (λ r₂ e₂. id⊢ 𝓤 _) (λ r₂ e₂.
           -- [what the second owns; the token; what s owns; _4; …; room for _3; …; _2; …; _1; …; room for _0; …]
-          peeks ! B (Is B) (shows 𝓤 H A B) r₂ (u₂ ∷ []) (λ is₂.
+          peeks ! (B (κ, tt)) (Is (B (κ, tt))) (shows 𝓤 H A (B (κ, tt))) r₂ (u₂ ∷ []) (λ is₂.
           land ! (from ! (stop !)) (init ! 5 refl (LL.lawful (T.the-type αᵉ) (T′.the-laws αᵉ) 𝓤 H A W .typed r₂ _ is₂ .0)) $
           -- _0 = _3.step()
           use2 W (raw (Stepped .pre (to-step r₂ u₂))) (goes-step r₂ u₂) $

@@ -26,8 +26,8 @@ use denote.RattleType.{owns}
 use denote.Laws.{Is}
 use denote.Plain.{uint-makes}
 use denote.Builtin.{u8, usize}
-use denote.Ref.{RefT, NamedLft}
-use denote.Signature.{plain, namedLft}
+use denote.Ref.{RefT}
+use denote.Signature.{plain}
 use denote.Slice.{sliceVal, ShrSlice, slice-vals, shr-slice-tells, shr-slice-lawful, shr-slice-copy}
 use denote.Steps.{nothing, owned}
 use denote.Struct.Rest.{own-shut}
@@ -39,7 +39,7 @@ use denote.Exit.{yes}
 use Rattle.strip_reader.specs.declared.Reader.{Reader}
 use Rattle.strip_reader.proofs.Reader as T
 use Rattle.strip_reader.proofs.Reader.Laws as T′
-use Rattle.strip_reader.proofs.States.{meets}
+use Rattle.strip_reader.proofs.States.{α, meets}
 use Rattle.strip_reader.proofs.Reader.new.Key.{name as #Reader·new}
 use Rattle.strip_reader.proofs.Reader.new as new
 use Rattle.strip_reader.proofs.Reader.new.Statement as stated
@@ -50,9 +50,6 @@ stayed = (stay-none-slice (0 ∷ []) tt (plain (λ _. u8)) yes, tt)
 
 module _ {M : Type 1} (𝓤 : URA M) (H : Heap 𝓤) (A : Atoms 𝓤) (W : Given 𝓤 H A) (mem : Memory → SProp 𝓤) (run : Routine → Fun 𝓤) where
   module _ (κ : Lft) (q : Share) (s : RefT (List ℕ)) where
-    abbrev α : NamedLft
-    α = namedLft 1 0 tt (κ, tt)
-
     -- the machine value that s has, and the struct returned
     abbrev v : Val
     v = sliceVal (s .ptr) (length (s .now))
@@ -82,7 +79,7 @@ module _ {M : Type 1} (𝓤 : URA M) (H : Heap 𝓤) (A : Atoms 𝓤) (W : Given
         frame ! $ fsplit ! $ use1 W (‵ Own ⊛ ‵ Own) (shr-slice-copy 𝓤 H A W (named 0) κ u8 .twice s (v ∷ [])) $ split ! $ move ! (0 ∷ 2 ∷ []) $ fjoin ! $ frame ! $
         -- [what the strip owns]: what the fields own together, of it and of the place's facts, is what the struct owns
         nothing ! $ owned ! usize (Is usize) (uint-makes 𝓤 H A W w64) 0 _ (refl, lit< tt) $ fjoin ! $ move ! (1 ∷ 0 ∷ []) $ fjoin ! $
-        by ! (own-shut 𝓤 H A W (T.the-type α) (T′.the-laws α) (s, (0, tt)))
+        by ! (own-shut 𝓤 H A W (T.the-type (α (κ, tt))) (T′.the-laws (α (κ, tt))) (s, (0, tt)))
 
     module _ (C : Calls 𝓤 H) (Λ : Loops 𝓤 H) where
       walk : Is (ShrSlice (named 0) κ u8) s (v ∷ []) → ent 𝓤 Entry (WpFn 𝓤 H C Λ code.function (v ∷ []) Post)

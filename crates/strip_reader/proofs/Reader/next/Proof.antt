@@ -59,7 +59,7 @@ use Rattle.strip_reader.proofs.place_after as place-after
 use Rattle.strip_reader.proofs.place_after.Symbol as place-after-def
 use Rattle.strip_reader.proofs.place_after.Symbol.{name as #place-after}
 use Rattle.strip_reader.proofs.place_after.Met as place-after-thm
-use Rattle.strip_reader.proofs.States.{meets, found, answers, StepAt, to-step, Own, apart}
+use Rattle.strip_reader.proofs.States.{Own, meets, found, answers, StepAt, to-step, apart}
 use Rattle.strip_reader.proofs.Reader.next.Key.{name as #Reader·next}
 use Rattle.strip_reader.proofs.Reader.next as next
 use Rattle.strip_reader.proofs.Reader.next.Statement as stated
@@ -116,14 +116,14 @@ module _ {M : Type 1} (𝓤 : URA M) (H : Heap 𝓤) (A : Atoms 𝓤) (W : Given
     moved n = record { strip = h .strip; place = n }
 
     abbrev ours : ℕ → Fml
-    ours n = B κ′ .own (moved n) (T′.lowered (moved n) ∷ [])
+    ours n = Own (α κ′) (moved n)
 
     abbrev token : Item 𝓤
     token = ‵ (flft κ′ q′) ⊛ ‵ ftrue
 
     -- what the struct owns, what `step_at` is called with, and what it asks
     abbrev kept : Item 𝓤
-    kept = ‵ (Own 𝓤 H A mem run (α κ′) q′ h)
+    kept = ‵ (Own (α κ′) h)
 
     abbrev to : StepAt 𝓤 H A mem run .Ghost
     to = to-step 𝓤 H A mem run (α κ′) q′ h

@@ -14,17 +14,14 @@ use prog.Memory.{Memory}
 use prog.Routine.{Routine}
 use prog.Wp.{Heap, Calls, Loops, WpFn, Tables}
 use ghost.Atoms.{Atoms}
-use contract.Lifetimes.{Lfts}
 use contract.Monad.{Fun}
 use contract.Running.{givenOf, tables, tablesOf}
 use types.Kit.{Given, Item, ‵, raw, _⊛_, ⋆, _$_, _∵_, !, qed, by, move, drop, use2, split, fsplit, fjoin, suffices, frame, done}
 use types.Part.{whole, sub, look-in}
 use types.Run.{look, init, forget, stop, fld, from, load, of-opd, and-then, no-more, assigns, land, returns, enter, alloc1, alloc0, params1, pass1, pass0, free1, free0}
 use sound.WpLaws.{FmC, fmOf}
-use denote.RattleType.{RattleType, owns}
+use denote.RattleType.{owns}
 use denote.Laws.{Is, shows}
-use denote.Ref.{NamedLft}
-use denote.Signature.{namedLft}
 use denote.Steps.{peeks, nothing}
 use denote.Enum.Laws as EL
 use denote.Struct.Laws as LL
@@ -45,18 +42,11 @@ use Rattle.strip_step.proofs.step_at as callee
 use Rattle.strip_step.proofs.step_at.Symbol as callee-def
 use Rattle.strip_step.proofs.step_at.Symbol.{name as #step-at}
 use Rattle.strip_step.proofs.step_at.Met as callee-thm
-use Rattle.strip_reader.proofs.States.{meets, found, answers, StepAt, to-step, Own, apart}
+use Rattle.strip_reader.proofs.States.{α, B, Own, meets, found, answers, StepAt, to-step, apart}
 use Rattle.strip_reader.proofs.Reader.step.Key.{name as #Reader·step}
 use Rattle.strip_reader.proofs.Reader.step as step
 use Rattle.strip_reader.proofs.Reader.step.Statement as stated
 use Rattle.strip_reader.proofs.Reader.step.Code as code
-
--- 'a, and the struct's type at it
-abbrev α : Lfts 1 → NamedLft
-α κs = namedLft 1 0 tt κs
-
-abbrev B : Lfts 1 → RattleType
-B κs = T.the-row (α κs)
 
 abbrev stayed : Stays (step.ended .signature .params) (step.ended .kept)
 stayed = (stay-none B yes, tt)
@@ -80,7 +70,7 @@ module _ {M : Type 1} (𝓤 : URA M) (H : Heap 𝓤) (A : Atoms 𝓤) (W : Given
 
     -- what the struct owns, what `step_at` is called with, and what it asks
     abbrev kept : Item 𝓤
-    kept = ‵ (Own 𝓤 H A mem run (α (κ, tt)) q d)
+    kept = ‵ (Own (α (κ, tt)) d)
 
     abbrev to : StepAt 𝓤 H A mem run .Ghost
     to = to-step 𝓤 H A mem run (α (κ, tt)) q d
