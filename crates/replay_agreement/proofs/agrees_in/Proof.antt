@@ -10,23 +10,20 @@ use Rattle.replay_agreement.proofs.agrees_in.Statement.{statement}
 use Rattle.replay_agreement.proofs.agrees_in.Tie as tie
 
 -- the walk was called as the stored call says
-ran : (c : tie.After-slice-known3) →
-    let walk = c .before .before in
+ran : (walk : tie.After-walk-by-number) →
     let fill = walk .before .before .before .before .before .before .before in
     let offset = fill .before .before in
-    let count = offset .before in
-    let size = count .before in
+    let size = offset .before .before in
     let s = size .before .before .before .args in
-    Ran (s .file .now) (s .pos) (size .read-be-u32 .result) (count .read-be-u322 .result) (offset .read-be-u64 .result) (fill .fill .last .0) (walk .walk-by-number .last .1 .1 .1 .1 .1 .0) (walk .walk-by-number .result)
-ran c =
-    let walk = c .before .before in
+    Ran (s .file .now) (s .pos) (size .read-be-u32 .result) (offset .before .read-be-u322 .result) (offset .read-be-u64 .result)
+    (fill .fill .last .0) (walk .walk-by-number .last .1 .1 .1 .1 .1 .0) (walk .walk-by-number .result)
+ran walk =
     let fill = walk .before .before .before .before .before .before .before in
     let offset = fill .before .before in
-    let count = offset .before in
-    let size = count .before in
+    let size = offset .before .before in
     record {
       sized = size .read-be-u32 .ensures;
-      counted = count .read-be-u322 .ensures;
+      counted = offset .before .read-be-u322 .ensures;
       placed = offset .read-be-u64 .ensures;
       filled = fill .fill .ensures ∙ ap lent (sym (size .before .before .before .pre .1));
       said = walk .walk-by-number .ensures .0;
@@ -35,7 +32,7 @@ ran c =
 
 returns : tie.Need-returns
 returns c =
-    let r = ran (c .before .before) in
+    let r = ran (c .before .before .before .before) in
     (sym (answer-differs _ _ r (c .before .is-answer .ensures) (not-true _ (c .if1 .taken))), said-by _ _ r .1)
 
 is-buffer-requires : tie.Need-is-buffer-requires
@@ -53,7 +50,7 @@ returns-2 c =
     let f = entry .args .file .now in
     let p = entry .args .pos in
     let n : length (walk .walk-by-number .last .1 .1 .1 .1 .1 .0) ≡ roomAt f p = omega (arith, walk .walk-by-number .kept, fill .fill .kept, entry .pre .1) in
-    let r = ran (c .before .before .before .before) in
+    let r = ran walk in
     (answer-agrees f p r (c .before .before .before .is-answer .ensures) (not-false _ (c .before .before .if1 .left)) n (c .is-buffer .ensures), said-by f p r .1)
 
 pub agrees-in-spec : {M : Type 1} → statement M
