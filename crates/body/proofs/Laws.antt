@@ -1,18 +1,19 @@
 -- Laws of what is written of a body.
-use Prim.Native.Nat.{ℕ, _+_, _-_, _≤_}
+use Prim.Native.Nat.{ℕ, _+_, _-_, _*_, _/_, _≤_}
 use native.Mathlib.Nat.{add-zero}
 use native.Mathlib.Omega.{arith}
 use mathlib.Core.Path.{_≡_, refl, sym, ap, _∙_}
 use mathlib.Core.List.{List, [], _++_}
 use lib.ListN.{length, take, drop, length-append, length-drop}
 use lib.Seq.{take-all}
-use Rattle.format.specs.Strip.{Entry, encode}
+use Rattle.format.specs.Strip.{Entry, encode, code}
 use Rattle.format.specs.Wrote.{Wrote}
 use Rattle.format.specs.Body as body
-use Rattle.format.specs.Body.{leftover, bodyEntries, bodyTail}
+use Rattle.format.specs.Body.{leftover, listing, whole, attachedRouter, bodyEntries, bodyTail}
 use Rattle.format.specs.Body.Body.{decoded, raw}
 use Rattle.format.proofs.Wrote.{then, encode-append}
 use Rattle.format.proofs.Bounds.{ownOf, restOf, own-and-rest}
+use Rattle.format.proofs.Lists.{length-whole}
 use Rattle.body.specs.Answers.{Pushed, pushedOf, measuredOf, bytesOf}
 use Rattle.body.specs.declared.Body.{Body}
 use Rattle.body.specs.declared.Body.the-variants.{Decoded, Raw}
@@ -26,6 +27,11 @@ pushed-decoded es n m e w = record { answer = rw (e, w .place); contents = w .co
 -- A raw body writes nothing.
 pub pushed-raw : (l : List ℕ) (at : ℕ) → Pushed raw l at l Raw
 pushed-raw l at = record { answer = refl; contents = refl }
+
+-- How long an array of attached routers is.
+pub length-routers : (i : ℕ) (b : List ℕ) (o : ℕ) → 4 ≤ length b → length (encode (listing i (attachedRouter b o) o 4 (whole 4 b 4))) ≡ 11 + (length b - 4) / 4 * 14
+unfolding attachedRouter encode code
+length-routers i b o h = length-whole 4 b 4 h i (attachedRouter b o) o 14 (λ s. refl)
 
 own-bytes : (x : body.Body) → encode (ownOf x) ≡ bytesOf x
 unfolding encode

@@ -1,12 +1,15 @@
 -- A header's entries are those of an LSA's first bytes, whatever follows.
-use Prim.Native.Nat.{ℕ, _+_, _≤_}
+use Prim.Native.Nat.{ℕ, _+_, _-_, _≤_, _<_}
 use native.Mathlib.Omega.{arith}
 use mathlib.Core.Path.{_≡_}
-use mathlib.Core.List.{List}
-use lib.ListN.{getD, take}
-use lib.Seq.{getD-take}
+use mathlib.Core.List.{List, _++_}
+use lib.ListN.{length, getD, take, drop}
+use lib.Seq.{getD-take, length-take-le}
 use Rattle.format.specs.Bytes.{be16At, be32At}
 use Rattle.format.specs.Header.{headerSize, headerEntries2, headerEntries3}
+use Rattle.format.specs.Strip.{Entry, encode}
+use Rattle.format.specs.Wrote.{Wrote}
+use Rattle.format.proofs.Wrote.{lent, lent-room}
 
 module _ (d : List ℕ) where
   byte : (p : ℕ) → p + 1 ≤ headerSize → getD (take headerSize d) p 0 ≡ getD d p 0
@@ -45,3 +48,18 @@ module _ (d : List ℕ) where
     two 16 (omega arith),
     two 18 (omega arith),
   )
+
+-- The entries of an LSA's header are written from a place on by writing those of its first bytes, lent by themselves, to the
+-- front of the strip that is lent from there on.
+module _ (entries : List ℕ → ℕ → List Entry) (d l : List ℕ) (a o : ℕ) (front : entries (take headerSize d) o ≡ entries d o) (room : a + length (encode (entries d o)) ≤ length l) where
+  pub front-room : headerSize ≤ length d → o + length d < 4294967296
+      → (0 + length (encode (entries (take headerSize d) o)) ≤ length (take (length l - a) (drop a l)))
+      × ((headerSize ≤ length (take headerSize d)) × (o + length (take headerSize d) < 4294967296))
+  front-room h k =
+      let t = length-take-le headerSize d h in
+      let r = lent-room l a (length (encode (entries d o))) room in
+      rw front (r, (omega arith, omega arith))
+
+  pub front-wrote : {s : List ℕ} {n : ℕ} → Wrote (take (length l - a) (drop a l)) 0 (encode (entries (take headerSize d) o)) s n
+      → Wrote l a (encode (entries d o)) (take a l ++ (s ++ drop (length l - a) (drop a l))) (a + n)
+  front-wrote w = lent room (rw front at w)

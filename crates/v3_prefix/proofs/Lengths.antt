@@ -1,14 +1,18 @@
 -- The lengths of the parts of a prefix, and of a list of prefixes, entry by entry.
-use Prim.Native.Nat.{ℕ, _+_, _-_, _<_}
+use Prim.Native.Nat.{ℕ, _+_, _-_, _*_, _≤_, _<_}
+use native.Mathlib.Omega.{arith}
 use mathlib.Core.Bool.{Bool, true, false, cond}
 use mathlib.Core.List.{List, [], _∷_, flatMap}
 use mathlib.Core.Option.{none, some}
 use mathlib.Core.Path.{_≡_, refl, ap, _∙_}
 use lib.ListN.{length, length-append}
+use Rattle.format.specs.Body.{listing}
 use Rattle.format.specs.Cut.{Span, cut, after, prefixRule}
 use Rattle.format.specs.Strip.{encode, code}
 use Rattle.format.specs.V3.{prefixMetric, prefixFields, prefix, entryFits}
 use Rattle.format.proofs.Lengths.{length-part, length-prefix}
+use Rattle.format.proofs.Lists.{length-listing}
+use Rattle.format.proofs.Sizes.{prefixes-bound}
 use Rattle.format.proofs.Loop.{spread, spread-cons}
 use Rattle.format.proofs.Unique.{span, cut-none, cut-next}
 use Rattle.v3_prefix.proofs.Fits.{entry-stands, entry-ends}
@@ -46,3 +50,8 @@ module _ (b : List ℕ) (k p n : ℕ) (h : 0 < k) (e : entryFits b p ≡ some n)
   pub prefixes-after : after p (cut prefixRule b k p) ≡ after (p + (4 + n)) (cut prefixRule b (k - 1) (p + (4 + n)))
   unfolding after
   prefixes-after = ap (after p) prefixes-next
+
+-- An array of prefixes is no longer than this.
+pub array-bound : (m : Bool) (b : List ℕ) (o k p : ℕ) → length (encode (listing 29 (prefix m b o) o p (cut prefixRule b k p))) ≤ 11 + 18 * length b
+unfolding spread
+array-bound m b o k p = omega (arith, length-listing 29 (prefix m b o) o p (cut prefixRule b k p), prefixes-bound b o m k p)

@@ -1,13 +1,10 @@
-use Rattle.body.proofs.Laws.{same-decoded}
+use Rattle.body.proofs.Laws.{same-decoded, length-routers}
 use native.Mathlib.Omega.{arith}
-use mathlib.Core.Path.{refl}
 use lib.ListN.{length}
 use borrow.Author.Needs.{needs}
 use borrow.Author.Tests.{lt-ltb, le-ltb}
-use Rattle.format.specs.Body.{attachedRouter}
 use Rattle.format.specs.Strip.{encode, code}
 use Rattle.format.specs.V3.{networkLsa3}
-use Rattle.format.proofs.Lists.{length-whole}
 use Rattle.v3_lsa.proofs.measure.measure_network_lsa.Statement.{statement}
 use Rattle.v3_lsa.proofs.measure.measure_network_lsa.Tie as tie
 
@@ -16,12 +13,7 @@ unfolding networkLsa3
 returns c = λ o. rw (lt-ltb (length (c .before .before .args .body .now)) 4 (omega arith))
 
 add-t3 : tie.Need-add-t3
-unfolding attachedRouter encode code
-add-t3 c =
-    let b = c .before .before .before .before .args .body .now in
-    let e = c .before .measure-attached-routers .ensures .0 0 0 in
-    let l = length-whole 4 b 4 (omega arith) 0 (attachedRouter b 0) 0 14 (λ s. refl) in
-    omega arith
+add-t3 c = omega (arith, c .before .measure-attached-routers .ensures .0 16 0, length-routers 16 (c .before .before .before .before .args .body .now) 0 (omega arith))
 
 returns-2 : tie.Need-returns-2
 unfolding networkLsa3 encode code

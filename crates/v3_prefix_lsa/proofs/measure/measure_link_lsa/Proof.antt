@@ -4,11 +4,9 @@ use mathlib.Core.Bool.{false}
 use lib.ListN.{length}
 use borrow.Author.Needs.{needs}
 use borrow.Author.Tests.{lt-ltb, le-ltb}
-use Rattle.format.specs.Cut.{cut, prefixRule}
 use Rattle.format.specs.Strip.{encode, code}
-use Rattle.format.specs.V3.{prefix, linkLsa}
-use Rattle.format.proofs.Lists.{length-listing}
-use Rattle.format.proofs.Sizes.{prefixes-bound}
+use Rattle.format.specs.V3.{linkLsa}
+use Rattle.v3_prefix.proofs.Lengths.{array-bound}
 use Rattle.v3_prefix_lsa.proofs.measure.measure_link_lsa.Statement.{statement}
 use Rattle.v3_prefix_lsa.proofs.measure.measure_link_lsa.Tie as tie
 
@@ -18,12 +16,8 @@ returns c = λ o. rw (lt-ltb (length (c .before .before .args .body .now)) 24 (o
 
 add-t3 : tie.Need-add-t3
 add-t3 c =
-    let b = c .before .before .before .before .before .args .body .now in
-    let n = c .before .before .read-be-u32 .result in
-    let e = c .before .measure-prefixes .ensures .0 0 in
-    let l = length-listing 29 (prefix false b 0) 0 24 (cut prefixRule b n 24) in
-    let h = prefixes-bound b 0 false n 24 in
-    omega arith
+    let h = array-bound false (c .before .before .before .before .before .args .body .now) 0 (c .before .before .read-be-u32 .result) 24 in
+    omega (arith, c .before .measure-prefixes .ensures .0 0)
 
 returns-2 : tie.Need-returns-2
 unfolding linkLsa encode code
