@@ -1,5 +1,7 @@
-// The ids of a strip's entries, as docs/STRIP.md lists them: a module for each version's fields, and here the ids that mean
-// the same in both. A code's id stands here once; its definition's stands in the tables of crate `format`.
+// The numbers of the strip's format, as docs/STRIP.md lists them: the kinds of entries, a module for each version's field
+// ids, and here the ids that mean the same in both. A number of the code stands here once; the definitions have it in crate
+// `format`.
+pub mod kind;
 pub mod v2;
 pub mod v3;
 
