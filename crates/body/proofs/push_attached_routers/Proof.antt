@@ -39,11 +39,14 @@ end-container-requires c κs =
 returns : tie.Need-returns
 unfolding whole
 returns c =
-    let s = c .before .before .before .before .before .before .before .before .before .before .before .before .before .before in
+    let k3 = c .before .before in
+    let k2 = k3 .before .before .before .before in
+    let k1 = k2 .before .before .before .before in
+    let s = k1 .before .before .before .before in
     let b = s .args .body .now in
     let o = s .args .o in
     let e = whole-after 4 b 4 (omega arith) in
-    (listed (s .args .id) (attachedRouter b o) o 4 (whole 4 b 4) (ap (λ (x : ℕ). o + x) e) (c .before .before .before .before .before .before .before .before .before .before .begin-container .ensures) (c .before .before .before .before .before .before .push-routers .ensures) (c .before .before .end-container .ensures), sym e)
+    (listed (s .args .id) (attachedRouter b o) o 4 (whole 4 b 4) (ap (λ (x : ℕ). o + x) e) (k1 .begin-container .ensures) (k2 .push-routers .ensures) (k3 .end-container .ensures), sym e)
 
 pub push-attached-routers-spec : {M : Type 1} → statement M
 push-attached-routers-spec = tie.close (tie.spec

@@ -30,20 +30,29 @@ enum-told c = search needs
 returns-3 : tie.Need-returns-3
 unfolding stepAt
 returns-3 c =
-    let s = c .before .before .before .before .before .before .before .args .strip .now in
-    let p = c .before .before .before .before .before .before .before .args .place in
-    let b = c .before .before .body-length in
-    rw (le-ltb (length s) p (c .before .before .before .before .before .if1 .left), ne-eqb p (length s) (c .before .before .before .before .if2 .left), none-of (bodyLength (getD s p 0)) (b .result) (b .ensures) (c .enum-told .given .1))
+    let k4 = c .before .before in
+    let k3 = k4 .before .before in
+    let k2 = k3 .before in
+    let k1 = k2 .before .before in
+    let s = k1 .args .strip .now in
+    let p = k1 .args .place in
+    let b = k4 .body-length in
+    rw (le-ltb (length s) p (k2 .if1 .left), ne-eqb p (length s) (k3 .if2 .left), none-of (bodyLength (getD s p 0)) (b .result) (b .ensures) (c .enum-told .given .1))
 
 returns-4 : tie.Need-returns-4
 unfolding stepAt
 returns-4 c =
-    let s = c .before .before .before .before .before .before .before .before .before .args .strip .now in
-    let p = c .before .before .before .before .before .before .before .before .before .args .place in
-    let b = c .before .before .before .before .body-length in
-    let n = c .before .before .n .given .0 .0 in
-    let e = some-of (bodyLength (getD s p 0)) n (b .result) (b .ensures) (c .before .before .n .given .1) in
-    rw (le-ltb (length s) p (c .before .before .before .before .before .before .before .if1 .left), ne-eqb p (length s) (c .before .before .before .before .before .before .if2 .left), e, lt-leb (p + 1 + n) (length s) (omega arith))
+    let k5 = c .before .before in
+    let k4 = k5 .before .before in
+    let k3 = k4 .before .before in
+    let k2 = k3 .before in
+    let k1 = k2 .before .before in
+    let s = k1 .args .strip .now in
+    let p = k1 .args .place in
+    let b = k4 .body-length in
+    let n = k5 .n .given .0 .0 in
+    let e = some-of (bodyLength (getD s p 0)) n (b .result) (b .ensures) (k5 .n .given .1) in
+    rw (le-ltb (length s) p (k2 .if1 .left), ne-eqb p (length s) (k3 .if2 .left), e, lt-leb (p + 1 + n) (length s) (omega arith))
 
 entry-at-requires : tie.Need-entry-at-requires
 entry-at-requires c κs =
@@ -58,12 +67,17 @@ entry-at-requires c κs =
 returns-5 : tie.Need-returns-5
 unfolding stepAt
 returns-5 c =
-    let s = c .before .before .before .before .before .before .before .before .before .before .args .strip .now in
-    let p = c .before .before .before .before .before .before .before .before .before .before .args .place in
-    let b = c .before .before .before .before .before .body-length in
-    let n = c .before .before .before .n .given .0 .0 in
-    let e = some-of (bodyLength (getD s p 0)) n (b .result) (b .ensures) (c .before .before .before .n .given .1) in
-    rw (le-ltb (length s) p (c .before .before .before .before .before .before .before .before .if1 .left), ne-eqb p (length s) (c .before .before .before .before .before .before .before .if2 .left), e, le-leb (p + 1 + n) (length s) (omega arith), c .entry-at .ensures)
+    let k5 = c .before .before .before in
+    let k4 = k5 .before .before in
+    let k3 = k4 .before .before in
+    let k2 = k3 .before in
+    let k1 = k2 .before .before in
+    let s = k1 .args .strip .now in
+    let p = k1 .args .place in
+    let b = k4 .body-length in
+    let n = k5 .n .given .0 .0 in
+    let e = some-of (bodyLength (getD s p 0)) n (b .result) (b .ensures) (k5 .n .given .1) in
+    rw (le-ltb (length s) p (k2 .if1 .left), ne-eqb p (length s) (k3 .if2 .left), e, le-leb (p + 1 + n) (length s) (omega arith), c .entry-at .ensures)
 
 pub step-at-spec : {M : Type 1} → statement M
 step-at-spec = tie.close (tie.spec

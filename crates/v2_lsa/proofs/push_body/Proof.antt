@@ -22,8 +22,9 @@ push-external-lsa-requires c κs =
 
 push-summary-lsa-requires : tie.Need-push-summary-lsa-requires
 push-summary-lsa-requires c κs =
-    let s = c .before .before .before .before .before .before in
-    (rw (is-summary (s .args .ls-type) (s .args .opaque-type) (s .args .body .now) (s .args .o) (omega (arith, c .before .before .before .match .rest .0 .0 .1, c .before .before .before .match .rest .0 .1)) (omega arith)) at (s .pre .0), s .pre .1)
+    let k = c .before .before .before in
+    let s = k .before .before .before in
+    (rw (is-summary (s .args .ls-type) (s .args .opaque-type) (s .args .body .now) (s .args .o) (omega (arith, k .match .rest .0 .0 .1, k .match .rest .0 .1)) (omega arith)) at (s .pre .0), s .pre .1)
 
 push-opaque-lsa-requires : tie.Need-push-opaque-lsa-requires
 push-opaque-lsa-requires c κs =
@@ -47,8 +48,12 @@ returns-3 c =
 
 returns-4 : tie.Need-returns-4
 returns-4 c =
-    let s = c .before .before .before .before .before .before .before .before .before in
-    rw (is-summary (s .args .ls-type) (s .args .opaque-type) (s .args .body .now) (s .args .o) (omega (arith, c .before .before .before .before .before .before .match .rest .0 .0 .1, c .before .before .before .before .before .before .match .rest .0 .1)) (omega arith)) (c .before .before .push-summary-lsa .ensures)
+    let k2 = c .before .before in
+    let k1 = k2 .before .before .before .before in
+    let s = k1 .before .before .before in
+    rw
+    (is-summary (s .args .ls-type) (s .args .opaque-type) (s .args .body .now) (s .args .o) (omega (arith, k1 .match .rest .0 .0 .1, k1 .match .rest .0 .1)) (omega arith))
+    (k2 .push-summary-lsa .ensures)
 
 returns-5 : tie.Need-returns-5
 returns-5 c =
@@ -58,17 +63,25 @@ returns-5 c =
 returns-6 : tie.Need-returns-6
 returns-6 c =
     let s = c .before .before .before .before in
-    rw (is-raw (s .args .ls-type) (s .args .opaque-type) (s .args .body .now) (s .args .o) (c .before .match .rest .0 .0 .1) (c .before .match .rest .0 .1) (c .before .match .rest .1) (λ h l. omega arith) (λ h l. omega arith)) (pushed-raw _ _)
+    rw
+    (is-raw (s .args .ls-type) (s .args .opaque-type) (s .args .body .now) (s .args .o) (c .before .match .rest .0 .0 .1) (c .before .match .rest .0 .1) (c .before .match .rest .1) (λ h l. omega arith) (λ h l. omega arith))
+    (pushed-raw _ _)
 
 returns-7 : tie.Need-returns-7
 returns-7 c =
-    let s = c .before .before .before .before .before .before in
-    rw (is-raw (s .args .ls-type) (s .args .opaque-type) (s .args .body .now) (s .args .o) (c .before .before .before .match .rest .0 .0 .1) (c .before .before .before .match .rest .0 .1) (c .before .before .before .match .rest .1) (λ h l. omega arith) (λ h l. omega arith)) (pushed-raw _ _)
+    let k = c .before .before .before in
+    let s = k .before .before .before in
+    rw
+    (is-raw (s .args .ls-type) (s .args .opaque-type) (s .args .body .now) (s .args .o) (k .match .rest .0 .0 .1) (k .match .rest .0 .1) (k .match .rest .1) (λ h l. omega arith) (λ h l. omega arith))
+    (pushed-raw _ _)
 
 returns-8 : tie.Need-returns-8
 returns-8 c =
-    let s = c .before .before .before .before .before .before .before in
-    rw (is-raw (s .args .ls-type) (s .args .opaque-type) (s .args .body .now) (s .args .o) (c .before .before .before .before .match .rest .0 .0 .1) (c .before .before .before .before .match .rest .0 .1) (c .before .before .before .before .match .rest .1) (λ h l. omega arith) (λ h l. omega arith)) (pushed-raw _ _)
+    let k = c .before .before .before .before in
+    let s = k .before .before .before in
+    rw
+    (is-raw (s .args .ls-type) (s .args .opaque-type) (s .args .body .now) (s .args .o) (k .match .rest .0 .0 .1) (k .match .rest .0 .1) (k .match .rest .1) (λ h l. omega arith) (λ h l. omega arith))
+    (pushed-raw _ _)
 
 pub push-body-spec : {M : Type 1} → statement M
 push-body-spec = tie.close (tie.spec

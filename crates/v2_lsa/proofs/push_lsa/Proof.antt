@@ -60,26 +60,34 @@ push-unparsed-requires-2 c κs =
 returns : tie.Need-returns
 unfolding lsaEntries2
 returns c =
-    let s = c .before .before .before .before .before .before .before .before .before .before .before .before .before .before .before .before .before .before .before .before in
+    let k4 = c .before .before in
+    let k3 = k4 .before .before .before in
+    let k2 = k3 .before .before .before .before in
+    let k1 = k2 .before .before .before .before .before .before .before in
+    let s = k1 .before .before .before .before in
     let d = s .args .lsa .now in
     let o = s .args .o in
     let z = to-the-end d 20 in
     let n = length-drop 20 d in
-    let p = rw z at (c .before .before .before .before .before .before .before .before .before .push-body .ensures) in
-    let w = rw z at (c .before .before .push-unparsed .ensures) in
-    lsa-decoded (headerEntries2 d o) 23 25 (bodyOf2 d o) (drop 20 d) (o + 20) _ (c .before .before .before .before .before .before .before .before .before .before .before .before .before .before .before .before .push-lsa-header .ensures) p (c .before .before .before .before .before .pushed .given .1) w
+    let p = rw z at (k2 .push-body .ensures) in
+    let w = rw z at (k4 .push-unparsed .ensures) in
+    lsa-decoded (headerEntries2 d o) 23 25 (bodyOf2 d o) (drop 20 d) (o + 20) _ (k1 .push-lsa-header .ensures) p (k3 .pushed .given .1) w
 
 returns-2 : tie.Need-returns-2
 unfolding lsaEntries2
 returns-2 c =
-    let s = c .before .before .before .before .before .before .before .before .before .before .before .before .before .before .before .before .before .before .before in
+    let k4 = c .before .before in
+    let k3 = k4 .before .before in
+    let k2 = k3 .before .before .before .before in
+    let k1 = k2 .before .before .before .before .before .before .before in
+    let s = k1 .before .before .before .before in
     let d = s .args .lsa .now in
     let o = s .args .o in
     let z = to-the-end d 20 in
     let n = length-drop 20 d in
-    let p = rw z at (c .before .before .before .before .before .before .before .before .push-body .ensures) in
-    let w = rw z at (c .before .before .push-unparsed2 .ensures) in
-    lsa-raw (headerEntries2 d o) 23 25 (bodyOf2 d o) (drop 20 d) (o + 20) _ (c .before .before .before .before .before .before .before .before .before .before .before .before .before .before .before .push-lsa-header .ensures) p (c .before .before .before .before .enum-told .given .1) w
+    let p = rw z at (k2 .push-body .ensures) in
+    let w = rw z at (k4 .push-unparsed2 .ensures) in
+    lsa-raw (headerEntries2 d o) 23 25 (bodyOf2 d o) (drop 20 d) (o + 20) _ (k1 .push-lsa-header .ensures) p (k3 .enum-told .given .1) w
 
 pub push-lsa-spec : {M : Type 1} → statement M
 push-lsa-spec = tie.close (tie.spec

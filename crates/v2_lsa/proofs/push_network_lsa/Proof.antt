@@ -32,9 +32,12 @@ push-attached-routers-requires c κs =
 returns-2 : tie.Need-returns-2
 unfolding networkLsa2 encode code
 returns-2 c =
-    let b = c .before .before .before .before .before .before .before .before .before .before .before .args .body .now in
+    let k3 = c .before .before in
+    let k2 = k3 .before .before .before .before in
+    let k1 = k2 .before .before .before .before .before in
+    let b = k1 .args .body .now in
     let t = le-ltb (length b) 4 (omega arith) in
-    rw t (pushed-decoded _ _ _ (c .before .before .push-attached-routers .ensures .1) (then (c .before .before .before .before .before .before .push-ipv4-at .ensures) (c .before .before .push-attached-routers .ensures .0)))
+    rw t (pushed-decoded _ _ _ (k3 .push-attached-routers .ensures .1) (then (k2 .push-ipv4-at .ensures) (k3 .push-attached-routers .ensures .0)))
 
 pub push-network-lsa-spec : {M : Type 1} → statement M
 push-network-lsa-spec = tie.close (tie.spec returns push-ipv4-at-requires push-attached-routers-requires (search needs) returns-2)

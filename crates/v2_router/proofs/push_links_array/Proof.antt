@@ -41,13 +41,17 @@ end-container-requires c κs =
 
 returns : tie.Need-returns
 returns c =
-    let s = c .before .before .before .before .before .before .before .before .before .before .before .before .before .before .before in
+    let k4 = c .before .before in
+    let k3 = k4 .before .before .before .before in
+    let k2 = k3 .before .before .before .before in
+    let k1 = k2 .before .before in
+    let s = k1 .before .before .before in
     let b = s .args .body .now in
     let o = s .args .o in
-    let count = c .before .before .before .before .before .before .before .before .before .before .before .before .read-be-u16 .ensures in
-    let w = rw count at (c .before .before .before .before .before .before .before .before .before .before .push-links .ensures .0) in
-    let e = rw count at (c .before .before .before .before .before .before .before .before .before .before .push-links .ensures .1 .0) in
-    (listed-last 16 (link b o) o 4 (links b) (ap (λ (x : ℕ). o + x) (sym e)) w (c .before .before .before .before .before .before .begin-container .ensures) (c .before .before .end-container .ensures), e)
+    let count = k1 .read-be-u16 .ensures in
+    let w = rw count at (k2 .push-links .ensures .0) in
+    let e = rw count at (k2 .push-links .ensures .1 .0) in
+    (listed-last 16 (link b o) o 4 (links b) (ap (λ (x : ℕ). o + x) (sym e)) w (k3 .begin-container .ensures) (k4 .end-container .ensures), e)
 
 pub push-links-array-spec : {M : Type 1} → statement M
 push-links-array-spec = tie.close (tie.spec

@@ -40,9 +40,13 @@ push-links-array-requires c κs =
 returns-2 : tie.Need-returns-2
 unfolding routerLsa2 encode code
 returns-2 c =
-    let b = c .before .before .before .before .before .before .before .before .before .before .before .before .before .before .before .args .body .now in
+    let k4 = c .before .before in
+    let k3 = k4 .before .before .before .before in
+    let k2 = k3 .before .before .before .before in
+    let k1 = k2 .before .before .before .before .before in
+    let b = k1 .args .body .now in
     let t = le-ltb (length b) 4 (omega arith) in
-    rw t (pushed-decoded _ _ _ (c .before .before .push-links-array .ensures .1) (then (then (c .before .before .before .before .before .before .before .before .before .before .push-router-flags .ensures) (c .before .before .before .before .before .before .push-u16-at .ensures)) (c .before .before .push-links-array .ensures .0)))
+    rw t (pushed-decoded _ _ _ (k4 .push-links-array .ensures .1) (then (then (k2 .push-router-flags .ensures) (k3 .push-u16-at .ensures)) (k4 .push-links-array .ensures .0)))
 
 pub push-router-lsa-spec : {M : Type 1} → statement M
 push-router-lsa-spec = tie.close (tie.spec returns push-router-flags-requires push-u16-at-requires push-links-array-requires (search needs) returns-2)

@@ -32,9 +32,12 @@ push-external-tos-metrics-requires c κs =
 returns-2 : tie.Need-returns-2
 unfolding externalLsa2 encode code
 returns-2 c =
-    let b = c .before .before .before .before .before .before .before .before .before .before .before .args .body .now in
+    let k3 = c .before .before in
+    let k2 = k3 .before .before .before .before in
+    let k1 = k2 .before .before .before .before .before in
+    let b = k1 .args .body .now in
     let t = le-ltb (length b) 16 (omega arith) in
-    rw t (pushed-decoded _ _ _ (c .before .before .push-external-tos-metrics .ensures .1) (then (c .before .before .before .before .before .before .push-external-fields .ensures) (c .before .before .push-external-tos-metrics .ensures .0)))
+    rw t (pushed-decoded _ _ _ (k3 .push-external-tos-metrics .ensures .1) (then (k2 .push-external-fields .ensures) (k3 .push-external-tos-metrics .ensures .0)))
 
 pub push-external-lsa-spec : {M : Type 1} → statement M
 push-external-lsa-spec = tie.close (tie.spec returns push-external-fields-requires push-external-tos-metrics-requires (search needs) returns-2)

@@ -40,9 +40,13 @@ push-summary-tos-metrics-requires c κs =
 returns-2 : tie.Need-returns-2
 unfolding summaryLsa encode code
 returns-2 c =
-    let b = c .before .before .before .before .before .before .before .before .before .before .before .before .before .before .before .args .body .now in
+    let k4 = c .before .before in
+    let k3 = k4 .before .before .before .before in
+    let k2 = k3 .before .before .before .before in
+    let k1 = k2 .before .before .before .before .before in
+    let b = k1 .args .body .now in
     let t = le-ltb (length b) 8 (omega arith) in
-    rw t (pushed-decoded _ _ _ (c .before .before .push-summary-tos-metrics .ensures .1) (then (then (c .before .before .before .before .before .before .before .before .before .before .push-ipv4-at .ensures) (c .before .before .before .before .before .before .push-metric24-at .ensures)) (c .before .before .push-summary-tos-metrics .ensures .0)))
+    rw t (pushed-decoded _ _ _ (k4 .push-summary-tos-metrics .ensures .1) (then (then (k2 .push-ipv4-at .ensures) (k3 .push-metric24-at .ensures)) (k4 .push-summary-tos-metrics .ensures .0)))
 
 pub push-summary-lsa-spec : {M : Type 1} → statement M
 push-summary-lsa-spec = tie.close (tie.spec

@@ -18,8 +18,10 @@ enum-told c = search needs
 
 returns : tie.Need-returns
 returns c =
-    let b = c .before .before .before .before .before .args .body .now in
-    rw (external-raw b (c .before .before .before .before .before .args .o) (none-of (fixedPrefixFits b) (c .before .before .fixed-prefix-fits .result) (c .before .before .fixed-prefix-fits .ensures) (c .enum-told .given .1)))
+    let k2 = c .before .before in
+    let k1 = k2 .before .before .before in
+    let b = k1 .args .body .now in
+    rw (external-raw b (k1 .args .o) (none-of (fixedPrefixFits b) (k2 .fixed-prefix-fits .result) (k2 .fixed-prefix-fits .ensures) (c .enum-told .given .1)))
     (pushed-raw _ _)
 
 fits : (c : tie.After-known-told) → fixedPrefixFits (c .before .before .before .before .before .before .args .body .now) ≡ some (c .before .n .given .0 .0)
@@ -32,7 +34,10 @@ external-end-requires c κs =
     omega arith
 
 returns-2 : tie.Need-returns-2
-returns-2 c = rw (external-short (c .before .before .before .before .before .before .before .before .args .body .now) (c .before .before .before .before .before .before .before .before .args .o) _ (fits (c .before .before)) (omega arith)) (pushed-raw _ _)
+returns-2 c =
+    let k2 = c .before .before in
+    let k1 = k2 .before .before .before .before .before .before in
+    rw (external-short (k1 .args .body .now) (k1 .args .o) _ (fits (k2)) (omega arith)) (pushed-raw _ _)
 
 push-external-flags-requires : tie.Need-push-external-flags-requires
 unfolding encode code
@@ -67,9 +72,15 @@ push-external-optional-requires c κs =
 returns-3 : tie.Need-returns-3
 unfolding encode code
 returns-3 c =
-    rw (external-decoded (c .before .before .before .before .before .before .before .before .before .before .before .before .before .before .before .before .before .before .before .before .args .body .now) (c .before .before .before .before .before .before .before .before .before .before .before .before .before .before .before .before .before .before .before .before .args .o) _ (fits (c .before .before .before .before .before .before .before .before .before .before .before .before .before .before)) (omega arith))
-    (pushed-decoded _ _ _ (c .before .before .before .before .before .before .before .before .before .before .before .before .before .external-end .ensures)
-    (then (then (c .before .before .before .before .before .before .before .before .before .before .push-external-flags .ensures) (c .before .before .before .before .before .before .push-external-prefix .ensures)) (c .before .before .push-external-optional .ensures)))
+    let k6 = c .before .before in
+    let k5 = k6 .before .before .before .before in
+    let k4 = k5 .before .before .before .before in
+    let k3 = k4 .before .before .before in
+    let k2 = k3 .before in
+    let k1 = k2 .before .before .before .before .before .before in
+    rw (external-decoded (k1 .args .body .now) (k1 .args .o) _ (fits (k2)) (omega arith))
+    (pushed-decoded _ _ _ (k3 .external-end .ensures)
+    (then (then (k4 .push-external-flags .ensures) (k5 .push-external-prefix .ensures)) (k6 .push-external-optional .ensures)))
 
 pub push-external-lsa-spec : {M : Type 1} → statement M
 push-external-lsa-spec = tie.close (tie.spec

@@ -26,10 +26,14 @@ push-referenced-link-state-id-requires c κs =
 
 returns : tie.Need-returns
 returns c =
-    let s = c .before .before .before .before .before .before .before .before .before .before .before .before .before .before .args in
+    let k4 = c .before .before in
+    let k3 = k4 .before .before .before .before in
+    let k2 = k3 .before .before .before .before in
+    let k1 = k2 .before .before .before .before in
+    let s = k1 .args in
     let b = s .body .now in
     rw (encode-append (forwardingAddress b (s .o) (s .n)), encode-append (externalRouteTag b (s .o) (s .n)))
-    (then (c .before .before .before .before .before .before .before .before .before .before .push-forwarding-address .ensures) (then (c .before .before .before .before .before .before .push-external-route-tag .ensures) (c .before .before .push-referenced-link-state-id .ensures)))
+    (then (k2 .push-forwarding-address .ensures) (then (k3 .push-external-route-tag .ensures) (k4 .push-referenced-link-state-id .ensures)))
 
 pub push-external-optional-spec : {M : Type 1} → statement M
 push-external-optional-spec = tie.close (tie.spec

@@ -67,34 +67,70 @@ returns : tie.Need-returns
 returns c = rw (router-body _ _ (c .before .before .before .before .before .before .before .args .o) (c .before .before .before .before .match .keys1)) (c .before .before .push-router-lsa .ensures)
 
 returns-2 : tie.Need-returns-2
-returns-2 c = rw (network-body _ _ (c .before .before .before .before .before .before .before .args .o) (c .before .before .before .before .match .keys2)) (c .before .before .push-network-lsa .ensures)
+returns-2 c =
+    let k3 = c .before .before in
+    let k2 = k3 .before .before in
+    let k1 = k2 .before .before .before in
+    rw (network-body _ _ (k1 .args .o) (k2 .match .keys2)) (k3 .push-network-lsa .ensures)
 
 returns-3 : tie.Need-returns-3
-returns-3 c = rw (inter-area-prefix-body _ _ (c .before .before .before .before .before .before .before .args .o) (c .before .before .before .before .match .keys3)) (c .before .before .push-inter-area-prefix-lsa .ensures)
+returns-3 c =
+    let k3 = c .before .before in
+    let k2 = k3 .before .before in
+    let k1 = k2 .before .before .before in
+    rw (inter-area-prefix-body _ _ (k1 .args .o) (k2 .match .keys3)) (k3 .push-inter-area-prefix-lsa .ensures)
 
 returns-4 : tie.Need-returns-4
-returns-4 c = rw (inter-area-router-body _ _ (c .before .before .before .before .before .before .before .args .o) (c .before .before .before .before .match .keys4)) (c .before .before .push-inter-area-router-lsa .ensures)
+returns-4 c =
+    let k3 = c .before .before in
+    let k2 = k3 .before .before in
+    let k1 = k2 .before .before .before in
+    rw (inter-area-router-body _ _ (k1 .args .o) (k2 .match .keys4)) (k3 .push-inter-area-router-lsa .ensures)
 
 returns-5 : tie.Need-returns-5
-returns-5 c = rw (external-body _ _ (c .before .before .before .before .before .before .before .args .o) (c .before .before .before .before .match .keys5)) (c .before .before .push-external-lsa .ensures)
+returns-5 c =
+    let k3 = c .before .before in
+    let k2 = k3 .before .before in
+    let k1 = k2 .before .before .before in
+    rw (external-body _ _ (k1 .args .o) (k2 .match .keys5)) (k3 .push-external-lsa .ensures)
 
 returns-6 : tie.Need-returns-6
 returns-6 c = rw (link-body _ _ (c .before .before .before .before .before .before .before .args .o) (c .before .before .before .before .match .keys6)) (c .before .before .push-link-lsa .ensures)
 
 returns-7 : tie.Need-returns-7
-returns-7 c = rw (intra-area-prefix-body _ _ (c .before .before .before .before .before .before .before .args .o) (c .before .before .before .before .match .keys7)) (c .before .before .push-intra-area-prefix-lsa .ensures)
+returns-7 c =
+    let k3 = c .before .before in
+    let k2 = k3 .before .before in
+    let k1 = k2 .before .before .before in
+    rw (intra-area-prefix-body _ _ (k1 .args .o) (k2 .match .keys7)) (k3 .push-intra-area-prefix-lsa .ensures)
 
 returns-8 : tie.Need-returns-8
-returns-8 c = rw (e-router-body _ _ (c .before .before .before .before .before .before .before .args .o) (c .before .before .before .before .match .keys9)) (c .before .before .push-e-router-lsa .ensures)
+returns-8 c =
+    let k3 = c .before .before in
+    let k2 = k3 .before .before in
+    let k1 = k2 .before .before .before in
+    rw (e-router-body _ _ (k1 .args .o) (k2 .match .keys9)) (k3 .push-e-router-lsa .ensures)
 
 returns-9 : tie.Need-returns-9
-returns-9 c = rw (e-network-body _ _ (c .before .before .before .before .before .before .before .args .o) (c .before .before .before .before .match .keys10)) (c .before .before .push-e-network-lsa .ensures)
+returns-9 c =
+    let k3 = c .before .before in
+    let k2 = k3 .before .before in
+    let k1 = k2 .before .before .before in
+    rw (e-network-body _ _ (k1 .args .o) (k2 .match .keys10)) (k3 .push-e-network-lsa .ensures)
 
 returns-10 : tie.Need-returns-10
-returns-10 c = rw (e-link-body _ _ (c .before .before .before .before .before .before .before .args .o) (c .before .before .before .before .match .keys11)) (c .before .before .push-e-link-lsa .ensures)
+returns-10 c =
+    let k3 = c .before .before in
+    let k2 = k3 .before .before in
+    let k1 = k2 .before .before .before in
+    rw (e-link-body _ _ (k1 .args .o) (k2 .match .keys11)) (k3 .push-e-link-lsa .ensures)
 
 returns-11 : tie.Need-returns-11
-returns-11 c = rw (e-intra-area-prefix-body _ _ (c .before .before .before .before .before .before .before .args .o) (c .before .before .before .before .match .keys12)) (c .before .before .push-e-intra-area-prefix-lsa .ensures)
+returns-11 c =
+    let k3 = c .before .before in
+    let k2 = k3 .before .before in
+    let k1 = k2 .before .before .before in
+    rw (e-intra-area-prefix-body _ _ (k1 .args .o) (k2 .match .keys12)) (k3 .push-e-intra-area-prefix-lsa .ensures)
 
 returns-12 : tie.Need-returns-12
 returns-12 c = rw (unknown (c .before) (λ g h. omega arith) (c .before .before .before .before .args .o)) (pushed-raw _ _)

@@ -37,10 +37,14 @@ end-container-requires c κs =
 returns : tie.Need-returns
 unfolding whole
 returns c =
-    let s = c .before .before .before .before .before .before .before .before .before .before .before .before .before .before .args in
+    let k4 = c .before .before in
+    let k3 = k4 .before .before .before .before in
+    let k2 = k3 .before .before .before .before in
+    let k1 = k2 .before .before .before .before in
+    let s = k1 .args in
     let b = s .body .now in
     let e = whole-after 16 b 4 (omega arith) in
-    (listed 15 (link b (s .o)) (s .o) 4 (whole 16 b 4) (ap (λ (x : ℕ). s .o + x) e) (c .before .before .before .before .before .before .before .before .before .before .begin-container .ensures) (c .before .before .before .before .before .before .push-link-entries .ensures) (c .before .before .end-container .ensures), sym e)
+    (listed 15 (link b (s .o)) (s .o) 4 (whole 16 b 4) (ap (λ (x : ℕ). s .o + x) e) (k2 .begin-container .ensures) (k3 .push-link-entries .ensures) (k4 .end-container .ensures), sym e)
 
 pub push-links-spec : {M : Type 1} → statement M
 push-links-spec = tie.close (tie.spec

@@ -35,19 +35,24 @@ push-body-requires c κs =
 
 -- what `push_body` answers, of the definition
 answer : (c : tie.After-push-body) → c .push-body .result ≡ pushedOf (c .before .before .before .before .before .before .push-lsa-header .result) (bodyOf3 (c .before .before .before .before .before .before .before .before .before .before .args .lsa .now) (c .before .before .before .before .before .before .before .before .before .before .args .o))
-answer c = rw (c .before .before .before .function-code .ensures, to-the-end (c .before .before .before .before .before .before .before .before .before .before .args .lsa .now) 20) at (c .push-body .ensures .answer)
+answer c =
+    let k2 = c .before .before .before in
+    let k1 = k2 .before .before .before .before .before .before .before in
+    rw (k2 .function-code .ensures, to-the-end (k1 .args .lsa .now) 20) at (c .push-body .ensures .answer)
 
 push-unparsed-requires : tie.Need-push-unparsed-requires
 unfolding lsaEntries3
 push-unparsed-requires c κs =
-    let s = c .before .before .before .before .before .before .before .before .before .before .before .before .before .before .before .before in
+    let k2 = c .before .before in
+    let k1 = k2 .before .before .before .before in
+    let s = k1 .before .before .before .before .before .before .before .before .before .before in
     let d = s .args .lsa .now in
     let b = drop headerSize d in
     let o = s .args .o + headerSize in
     let l = length-lsa (headerEntries3 d (s .args .o)) 31 33 (bodyOf3 d (s .args .o)) b o in
     let m = length-drop headerSize d in
-    let g = c .before .before .b .given in
-    let x = pushed-is-decoded (bodyOf3 d (s .args .o)) _ (g .0 .0) (g .0 .1 .0) (c .before .before .before .before .before .before .push-body .result) (answer (c .before .before .before .before .before .before)) (g .1) in
+    let g = k2 .b .given in
+    let x = pushed-is-decoded (bodyOf3 d (s .args .o)) _ (g .0 .0) (g .0 .1 .0) (k1 .push-body .result) (answer (k1)) (g .1) in
     let k = ap (λ (es : List Entry). length (encode es)) (x .1 31 33 b o) in
     rw (to-the-end d 20) (omega arith)
 
@@ -57,33 +62,46 @@ enum-told c = search needs
 push-unparsed-requires-2 : tie.Need-push-unparsed-requires-2
 unfolding lsaEntries3
 push-unparsed-requires-2 c κs =
-    let s = c .before .before .before .before .before .before .before .before .before .before .before .before .before .before .before in
+    let k1 = c .before .before .before .before .before in
+    let s = k1 .before .before .before .before .before .before .before .before .before .before in
     let d = s .args .lsa .now in
     let b = drop headerSize d in
     let o = s .args .o + headerSize in
     let l = length-lsa (headerEntries3 d (s .args .o)) 31 33 (bodyOf3 d (s .args .o)) b o in
     let m = length-drop headerSize d in
-    let x = pushed-is-raw (bodyOf3 d (s .args .o)) _ (c .before .before .before .before .before .push-body .result) (answer (c .before .before .before .before .before)) (c .before .enum-told .given .1) in
+    let x = pushed-is-raw (bodyOf3 d (s .args .o)) _ (k1 .push-body .result) (answer (k1)) (c .before .enum-told .given .1) in
     let k = ap (λ (es : List Entry). length (encode es)) (x .1 31 33 b o) in
     rw (to-the-end d 20) (omega arith)
 
 returns : tie.Need-returns
 unfolding lsaEntries3
 returns c =
-    let s = c .before .before .before .before .before .before .before .before .before .before .before .before .before .before .before .before .before .before .before in
+    let k5 = c .before .before in
+    let k4 = k5 .before .before .before in
+    let k3 = k4 .before .before .before .before in
+    let k2 = k3 .before .before .before in
+    let k1 = k2 .before .before .before in
+    let s = k1 .before .before .before .before in
     let d = s .args .lsa .now in
     let w = to-the-end d 20 in
-    let p = rw (c .before .before .before .before .before .before .before .before .before .before .before .before .function-code .ensures, w) at (c .before .before .before .before .before .before .before .before .before .push-body .ensures) in
-    lsa-decoded (headerEntries3 d (s .args .o)) 31 33 (bodyOf3 d (s .args .o)) (drop headerSize d) (s .args .o + headerSize) (c .before .before .before .before .before .before .before .before .before .push-body .result) (c .before .before .before .before .before .before .before .before .before .before .before .before .before .before .before .push-lsa-header .ensures) p (c .before .before .before .before .before .b .given .1) (rw w at (c .before .before .push-unparsed .ensures))
+    let p = rw (k2 .function-code .ensures, w) at (k3 .push-body .ensures) in
+    lsa-decoded (headerEntries3 d (s .args .o)) 31 33 (bodyOf3 d (s .args .o)) (drop headerSize d) (s .args .o + headerSize) (k3 .push-body .result)
+    (k1 .push-lsa-header .ensures) p (k4 .b .given .1) (rw w at (k5 .push-unparsed .ensures))
 
 returns-2 : tie.Need-returns-2
 unfolding lsaEntries3
 returns-2 c =
-    let s = c .before .before .before .before .before .before .before .before .before .before .before .before .before .before .before .before .before .before in
+    let k5 = c .before .before in
+    let k4 = k5 .before .before in
+    let k3 = k4 .before .before .before .before in
+    let k2 = k3 .before .before .before in
+    let k1 = k2 .before .before .before in
+    let s = k1 .before .before .before .before in
     let d = s .args .lsa .now in
     let w = to-the-end d 20 in
-    let p = rw (c .before .before .before .before .before .before .before .before .before .before .before .function-code .ensures, w) at (c .before .before .before .before .before .before .before .before .push-body .ensures) in
-    lsa-raw (headerEntries3 d (s .args .o)) 31 33 (bodyOf3 d (s .args .o)) (drop headerSize d) (s .args .o + headerSize) (c .before .before .before .before .before .before .before .before .push-body .result) (c .before .before .before .before .before .before .before .before .before .before .before .before .before .before .push-lsa-header .ensures) p (c .before .before .before .before .enum-told .given .1) (rw w at (c .before .before .push-unparsed2 .ensures))
+    let p = rw (k2 .function-code .ensures, w) at (k3 .push-body .ensures) in
+    lsa-raw (headerEntries3 d (s .args .o)) 31 33 (bodyOf3 d (s .args .o)) (drop headerSize d) (s .args .o + headerSize) (k3 .push-body .result)
+    (k1 .push-lsa-header .ensures) p (k4 .enum-told .given .1) (rw w at (k5 .push-unparsed2 .ensures))
 
 pub push-lsa-spec : {M : Type 1} → statement M
 push-lsa-spec = tie.close (tie.spec

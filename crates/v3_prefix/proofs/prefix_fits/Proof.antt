@@ -11,8 +11,10 @@ enum-told c = search needs
 
 returns : tie.Need-returns
 returns c =
-    let a = c .before .before .before .before .args in
-    rw (fits-none (a .body .now) (a .prefix-length) (a .p) (none-of (octets (a .prefix-length)) (c .before .before .prefix-octets .result) (c .before .before .prefix-octets .ensures) (c .enum-told .given .1)))
+    let k2 = c .before .before in
+    let k1 = k2 .before .before in
+    let a = k1 .args in
+    rw (fits-none (a .body .now) (a .prefix-length) (a .p) (none-of (octets (a .prefix-length)) (k2 .prefix-octets .result) (k2 .prefix-octets .ensures) (c .enum-told .given .1)))
 
 returns-2 : tie.Need-returns-2
 returns-2 c =

@@ -38,9 +38,13 @@ end-container-requires c κs =
 returns : tie.Need-returns
 unfolding prefix
 returns c =
-    let s = c .before .before .before .before .before .before .before .before .before .before .before .before .before .before .args in
+    let k4 = c .before .before in
+    let k3 = k4 .before .before .before .before in
+    let k2 = k3 .before .before .before .before in
+    let k1 = k2 .before .before .before .before in
+    let s = k1 .args in
     let z : 4 + s .n - 4 ≡ s .n = omega arith in
-    rw z (contained 97 _ _ (prefixFields (s .with-metric) (s .body .now) (s .o) (s .p) (s .n)) (c .before .before .before .before .before .before .before .before .before .before .begin-container .ensures) (c .before .before .before .before .before .before .push-prefix-fields .ensures) (c .before .before .end-container .ensures))
+    rw z (contained 97 _ _ (prefixFields (s .with-metric) (s .body .now) (s .o) (s .p) (s .n)) (k2 .begin-container .ensures) (k3 .push-prefix-fields .ensures) (k4 .end-container .ensures))
 
 pub push-prefix-spec : {M : Type 1} → statement M
 push-prefix-spec = tie.close (tie.spec

@@ -42,9 +42,14 @@ push-ipv6-at-requires c κs =
 returns : tie.Need-returns
 unfolding encode code
 returns c =
-    let s = c .before .before .before .before .before .before .before .before .before .before .before .before .before .before .before .before .before .before .args in
+    let k5 = c .before .before in
+    let k4 = k5 .before .before .before .before in
+    let k3 = k4 .before .before .before .before in
+    let k2 = k3 .before .before .before .before in
+    let k1 = k2 .before .before .before .before in
+    let s = k1 .args in
     rw (encode-append (prefixMetric (s .with-metric) (s .body .now) (s .o) (s .p)))
-    (then (then (c .before .before .before .before .before .before .before .before .before .before .before .before .before .before .push-u8-at .ensures) (c .before .before .before .before .before .before .before .before .before .before .push-u8-at2 .ensures)) (then (c .before .before .before .before .before .before .push-prefix-metric .ensures) (c .before .before .push-ipv6-at .ensures)))
+    (then (then (k2 .push-u8-at .ensures) (k3 .push-u8-at2 .ensures)) (then (k4 .push-prefix-metric .ensures) (k5 .push-ipv6-at .ensures)))
 
 pub push-prefix-fields-spec : {M : Type 1} → statement M
 push-prefix-fields-spec = tie.close (tie.spec

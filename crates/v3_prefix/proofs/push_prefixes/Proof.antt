@@ -39,11 +39,15 @@ end-container-requires c κs =
 
 returns : tie.Need-returns
 returns c =
-    let s = c .before .before .before .before .before .before .before .before .before .before .before .before .before .before .before .args in
+    let k4 = c .before .before in
+    let k3 = k4 .before .before .before .before in
+    let k2 = k3 .before .before .before .before .before in
+    let k1 = k2 .before .before .before .before in
+    let s = k1 .args in
     let b = s .body .now in
     let ss = cut prefixRule b (s .count) (s .p) in
-    let k = c .before .before .before .before .before .before .before .before .before .before .before .push-prefix-entries .ensures in
-    (listed-last 29 (prefix (s .with-metric) b (s .o)) (s .o) (s .p) ss (ap (λ (x : ℕ). s .o + x) (sym (k .1 .0))) (k .0) (c .before .before .before .before .before .before .begin-container .ensures) (c .before .before .end-container .ensures), k .1 .0)
+    let k = k2 .push-prefix-entries .ensures in
+    (listed-last 29 (prefix (s .with-metric) b (s .o)) (s .o) (s .p) ss (ap (λ (x : ℕ). s .o + x) (sym (k .1 .0))) (k .0) (k3 .begin-container .ensures) (k4 .end-container .ensures), k .1 .0)
 
 pub push-prefixes-spec : {M : Type 1} → statement M
 push-prefixes-spec = tie.close (tie.spec

@@ -18,8 +18,10 @@ enum-told c = search needs
 
 returns : tie.Need-returns
 returns c =
-    let b = c .before .before .before .before .before .args .body .now in
-    rw (inter-area-prefix-raw b (c .before .before .before .before .before .args .o) (none-of (fixedPrefixFits b) (c .before .before .fixed-prefix-fits .result) (c .before .before .fixed-prefix-fits .ensures) (c .enum-told .given .1)))
+    let k2 = c .before .before in
+    let k1 = k2 .before .before .before in
+    let b = k1 .args .body .now in
+    rw (inter-area-prefix-raw b (k1 .args .o) (none-of (fixedPrefixFits b) (k2 .fixed-prefix-fits .result) (k2 .fixed-prefix-fits .ensures) (c .enum-told .given .1)))
     (pushed-raw _ _)
 
 fits : (c : tie.After-known-told) → fixedPrefixFits (c .before .before .before .before .before .before .args .body .now) ≡ some (c .before .n .given .0 .0)
@@ -67,16 +69,24 @@ push-ipv6-at-requires c κs =
 
 add-t19 : tie.Need-add-t19
 add-t19 c =
-    let b = c .before .before .before .before .before .before .before .before .before .before .before .before .before .before .before .before .before .before .before .before .before .before .args .body .now in
-    let i = fits-inside b (getD b 4 0) 8 _ (fits (c .before .before .before .before .before .before .before .before .before .before .before .before .before .before .before .before)) in
+    let k2 = c .before .before .before .before .before .before .before .before .before .before .before .before .before .before .before .before in
+    let k1 = k2 .before .before .before .before .before .before in
+    let b = k1 .args .body .now in
+    let i = fits-inside b (getD b 4 0) 8 _ (fits (k2)) in
     omega arith
 
 returns-2 : tie.Need-returns-2
 unfolding encode code
 returns-2 c =
-    rw (inter-area-prefix-decoded (c .before .before .before .before .before .before .before .before .before .before .before .before .before .before .before .before .before .before .before .before .before .before .args .body .now) (c .before .before .before .before .before .before .before .before .before .before .before .before .before .before .before .before .before .before .before .before .before .before .args .o) _ (fits (c .before .before .before .before .before .before .before .before .before .before .before .before .before .before .before .before)))
+    let k6 = c .before .before in
+    let k5 = k6 .before .before .before .before in
+    let k4 = k5 .before .before .before .before in
+    let k3 = k4 .before .before .before .before in
+    let k2 = k3 .before .before in
+    let k1 = k2 .before .before .before .before .before .before in
+    rw (inter-area-prefix-decoded (k1 .args .body .now) (k1 .args .o) _ (fits (k2)))
     (pushed-decoded _ _ _ refl
-    (then (then (then (c .before .before .before .before .before .before .before .before .before .before .before .before .before .before .push-metric24-at .ensures) (c .before .before .before .before .before .before .before .before .before .before .push-u8-at .ensures)) (c .before .before .before .before .before .before .push-u8-at2 .ensures)) (c .before .before .push-ipv6-at .ensures)))
+    (then (then (then (k3 .push-metric24-at .ensures) (k4 .push-u8-at .ensures)) (k5 .push-u8-at2 .ensures)) (k6 .push-ipv6-at .ensures)))
 
 pub push-inter-area-prefix-lsa-spec : {M : Type 1} → statement M
 push-inter-area-prefix-lsa-spec = tie.close (tie.spec

@@ -57,15 +57,18 @@ add-total-2 c =
 
 loop-again : tie.Need-loop-again Inv-loop μ-loop
 loop-again c =
-    let s = c .before .before .before .before .before .args in
+    let k3 = c .before .before in
+    let k2 = k3 .before in
+    let k1 = k2 .before .before in
+    let s = k1 .args in
     let d = s .data .now in
-    let l = c .before .before .before .loop in
+    let l = k2 .loop in
     let p = l .pos in
     let q : p + 20 - p ≡ 20 = omega arith in
     let m = rw q at (c .measure-header .ensures) in (
       λ o.
           let t : l .total + 11 + c .measure-header .result ≡ l .total + length (encode (headerObject (s .version) d o (span p 20))) = omega (arith, length-header-object (s .version) d o p 20, m (o + p)) in
-          rw t (measure-turn (fixedRule 20) (headerObject (s .version) d o) d _ 0 20 (l .inv .0 o) (c .before .before .loop-test .taken) (fixed-stands 20 d p (omega arith))),
+          rw t (measure-turn (fixedRule 20) (headerObject (s .version) d o) d _ 0 20 (l .inv .0 o) (k3 .loop-test .taken) (fixed-stands 20 d p (omega arith))),
       omega arith,
     )
 

@@ -28,10 +28,14 @@ returns-6 : tie.Need-returns-6
 returns-6 c = λ o. rw (is-raw _ _ _ o (c .before .match .rest .0 .0 .1) (c .before .match .rest .0 .1) (c .before .match .rest .1) (λ h l. omega arith) (λ h l. omega arith))
 
 returns-7 : tie.Need-returns-7
-returns-7 c = λ o. rw (is-raw _ _ _ o (c .before .before .before .match .rest .0 .0 .1) (c .before .before .before .match .rest .0 .1) (c .before .before .before .match .rest .1) (λ h l. omega arith) (λ h l. omega arith))
+returns-7 c =
+    let k = c .before .before .before in
+    λ o. rw (is-raw _ _ _ o (k .match .rest .0 .0 .1) (k .match .rest .0 .1) (k .match .rest .1) (λ h l. omega arith) (λ h l. omega arith))
 
 returns-8 : tie.Need-returns-8
-returns-8 c = λ o. rw (is-raw _ _ _ o (c .before .before .before .before .match .rest .0 .0 .1) (c .before .before .before .before .match .rest .0 .1) (c .before .before .before .before .match .rest .1) (λ h l. omega arith) (λ h l. omega arith))
+returns-8 c =
+    let k = c .before .before .before .before in
+    λ o. rw (is-raw _ _ _ o (k .match .rest .0 .0 .1) (k .match .rest .0 .1) (k .match .rest .1) (λ h l. omega arith) (λ h l. omega arith))
 
 pub measure-body-spec : {M : Type 1} → statement M
 measure-body-spec = tie.close (tie.spec

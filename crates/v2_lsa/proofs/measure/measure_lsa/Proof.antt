@@ -26,33 +26,40 @@ parsed c o =
     omega arith
 
 unparsed : (c : tie.After-measure-unparsed2) (o : ℕ)
-    → c .before .before .before .before .before .before .before .measure-lsa-header-fields .result + c .measure-unparsed2 .result ≡ length (encode (lsaEntries2 (c .before .before .before .before .before .before .before .before .before .args .lsa .now) o))
+    → c .before .before .before .before .before .before .before .measure-lsa-header-fields .result + c .measure-unparsed2 .result ≡ length
+    (encode (lsaEntries2 (c .before .before .before .before .before .before .before .before .before .args .lsa .now) o))
 unfolding lsaEntries2
 unparsed c o =
-    let d = c .before .before .before .before .before .before .before .before .before .args .lsa .now in
+    let k3 = c .before .before .before in
+    let k2 = k3 .before .before .before .before in
+    let k1 = k2 .before .before in
+    let d = k1 .args .lsa .now in
     let z = to-the-end d 20 in
-    let f = c .before .before .before .before .before .before .before .measure-lsa-header-fields .ensures o in
-    let m = rw z at (c .before .before .before .measure-body .ensures (o + 20)) in
+    let f = k2 .measure-lsa-header-fields .ensures o in
+    let m = rw z at (k3 .measure-body .ensures (o + 20)) in
     let u = rw z at (c .measure-unparsed2 .ensures 23 (o + 20)) in
     let l = length-raw (headerEntries2 d o) 23 25 (bodyOf2 d o) (drop 20 d) (o + 20) _ m (c .before .enum-told .given .1) in
     omega arith
 
 add-t17 : tie.Need-add-t17
 add-t17 c =
+    let k = c .before .before .before .before .before .before .before .before .before .before in
     let t = parsed c 0 in
-    let l = lsa-bound2 (c .before .before .before .before .before .before .before .before .before .before .args .lsa .now) 0 (c .before .before .before .before .before .before .before .before .before .before .pre .0) in
+    let l = lsa-bound2 (k .args .lsa .now) 0 (k .pre .0) in
     omega arith
 
 add-t18 : tie.Need-add-t18
 add-t18 c =
+    let k = c .before .before .before .before .before .before .before .before .before .before in
     let t = parsed c 0 in
-    let l = lsa-bound2 (c .before .before .before .before .before .before .before .before .before .before .args .lsa .now) 0 (c .before .before .before .before .before .before .before .before .before .before .pre .0) in
+    let l = lsa-bound2 (k .args .lsa .now) 0 (k .pre .0) in
     omega arith
 
 add-t20 : tie.Need-add-t20
 add-t20 c =
+    let k = c .before .before .before .before .before .before .before .before .before in
     let t = unparsed c 0 in
-    let l = lsa-bound2 (c .before .before .before .before .before .before .before .before .before .args .lsa .now) 0 (c .before .before .before .before .before .before .before .before .before .pre .0) in
+    let l = lsa-bound2 (k .args .lsa .now) 0 (k .pre .0) in
     omega arith
 
 returns : tie.Need-returns

@@ -29,7 +29,9 @@ enum-told : tie.Need-enum-told Inv-loop μ-loop
 enum-told c = search needs
 
 fits : (c : tie.After-known-told Inv-loop μ-loop) → linkRule (c .before .before .before .before .before .before .before .args .body .now) (c .before .before .before .before .before .loop .pos) ≡ some (c .before .n .given .0 .0)
-fits c = some-of _ _ (c .before .before .before .link-fits .result) (c .before .before .before .link-fits .ensures) (c .before .n .given .1)
+fits c =
+    let k = c .before .before .before in
+    some-of _ _ (k .link-fits .result) (k .link-fits .ensures) (c .before .n .given .1)
 
 measure-link-requires : tie.Need-measure-link-requires Inv-loop μ-loop
 measure-link-requires c κs =

@@ -17,9 +17,12 @@ returns c = λ o. rw (lt-ltb (length (c .before .before .args .body .now)) 4 (om
 returns-2 : tie.Need-returns-2
 unfolding routerLsa2 spread encode code
 returns-2 c =
-    let b = c .before .before .before .before .before .args .body .now in
-    let count = c .before .before .read-be-u16 .ensures in
-    λ o. rw (le-ltb (length b) 4 (omega arith)) (same-decoded (let e = rw count at (c .before .measure-links .ensures .0 o) in let l = length-listing 16 (link b o) o 4 (links b) in omega arith) (rw count at (c .before .measure-links .ensures .1 .0)))
+    let k2 = c .before .before in
+    let k1 = k2 .before .before .before in
+    let b = k1 .args .body .now in
+    let count = k2 .read-be-u16 .ensures in
+    λ o. rw (le-ltb (length b) 4 (omega arith))
+    (same-decoded (let e = rw count at (c .before .measure-links .ensures .0 o) in let l = length-listing 16 (link b o) o 4 (links b) in omega arith) (rw count at (c .before .measure-links .ensures .1 .0)))
 
 pub measure-router-lsa-spec : {M : Type 1} → statement M
 measure-router-lsa-spec = tie.close (tie.spec returns (search needs) (search needs) (search needs) returns-2)

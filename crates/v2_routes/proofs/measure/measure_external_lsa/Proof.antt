@@ -18,8 +18,10 @@ returns c = λ o. rw (lt-ltb (length (c .before .before .args .body .now)) 16 (o
 returns-2 : tie.Need-returns-2
 unfolding externalLsa2 externalTos container encode code
 returns-2 c =
-    let b = c .before .before .before .args .body .now in
-    λ o. rw (le-ltb (length b) 16 (omega arith)) (same-decoded (let e = c .measure-tos-metrics .ensures .0 20 (externalTos b o) o 16 (whole 12 b 16) (λ s. refl) (whole-count 12 b 16 (omega arith)) in omega arith) (sym (whole-after 12 b 16 (omega arith))))
+    let k = c .before .before .before in
+    let b = k .args .body .now in
+    λ o. rw (le-ltb (length b) 16 (omega arith))
+    (same-decoded (let e = c .measure-tos-metrics .ensures .0 20 (externalTos b o) o 16 (whole 12 b 16) (λ s. refl) (whole-count 12 b 16 (omega arith)) in omega arith) (sym (whole-after 12 b 16 (omega arith))))
 
 pub measure-external-lsa-spec : {M : Type 1} → statement M
 measure-external-lsa-spec = tie.close (tie.spec

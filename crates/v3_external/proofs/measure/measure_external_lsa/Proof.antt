@@ -45,9 +45,14 @@ add-t7 c =
 
 returns-3 : tie.Need-returns-3
 unfolding encode code
-returns-3 c = λ o.
-    let q = c .measure-external-optional .ensures o (c .before .before .before .before .n .given .0 .0) in
-    rw (external-decoded (c .before .before .before .before .before .before .before .before .args .body .now) o _ (fits (c .before .before .before)) (omega arith)) (same-decoded (omega arith) (c .before .before .external-end .ensures))
+returns-3 c =
+    let k4 = c .before .before in
+    let k3 = k4 .before in
+    let k2 = k3 .before in
+    let k1 = k2 .before .before .before .before in
+    λ o.
+    let q = c .measure-external-optional .ensures o (k2 .n .given .0 .0) in
+    rw (external-decoded (k1 .args .body .now) o _ (fits (k3)) (omega arith)) (same-decoded (omega arith) (k4 .external-end .ensures))
 
 pub measure-external-lsa-spec : {M : Type 1} → statement M
 measure-external-lsa-spec = tie.close (tie.spec

@@ -18,22 +18,31 @@ answer c o = rw (c .before .before .function-code .ensures, to-the-end (c .befor
 
 -- The lengths that are added are those of the LSA's parts.
 parsed : (c : tie.After-measure-unparsed) (o : ℕ)
-    → c .before .before .before .before .before .before .before .measure-lsa-header-fields .result + (c .before .before .length .given .0 .0 + c .measure-unparsed .result) ≡ length (encode (lsaEntries3 (c .before .before .before .before .before .before .before .before .before .args .lsa .now) o))
+    → c .before .before .before .before .before .before .before .measure-lsa-header-fields .result +
+    (c .before .before .length .given .0 .0 + c .measure-unparsed .result) ≡ length
+    (encode (lsaEntries3 (c .before .before .before .before .before .before .before .before .before .args .lsa .now) o))
 unfolding lsaEntries3
 parsed c o =
-    let d = c .before .before .before .before .before .before .before .before .before .args .lsa .now in
-    let f = c .before .before .before .before .before .before .before .measure-lsa-header-fields .ensures d o in
+    let k4 = c .before .before in
+    let k3 = k4 .before .before in
+    let k2 = k3 .before .before .before in
+    let k1 = k2 .before .before in
+    let d = k1 .args .lsa .now in
+    let f = k2 .measure-lsa-header-fields .ensures d o in
     let u = rw (to-the-end d 20) at (c .measure-unparsed .ensures 33 (o + 20)) in
-    let l = length-decoded (headerEntries3 d o) 31 33 (bodyOf3 d o) (drop 20 d) (o + 20) _ _ _ (answer (c .before .before .before .before) o) (c .before .before .length .given .1) in
+    let l = length-decoded (headerEntries3 d o) 31 33 (bodyOf3 d o) (drop 20 d) (o + 20) _ _ _ (answer (k3) o) (k4 .length .given .1) in
     omega arith
 
 unparsed : (c : tie.After-measure-unparsed2) (o : ℕ) → c .before .before .before .before .before .before .measure-lsa-header-fields .result + c .measure-unparsed2 .result ≡ length (encode (lsaEntries3 (c .before .before .before .before .before .before .before .before .args .lsa .now) o))
 unfolding lsaEntries3
 unparsed c o =
-    let d = c .before .before .before .before .before .before .before .before .args .lsa .now in
-    let f = c .before .before .before .before .before .before .measure-lsa-header-fields .ensures d o in
+    let k3 = c .before .before .before in
+    let k2 = k3 .before .before .before in
+    let k1 = k2 .before .before in
+    let d = k1 .args .lsa .now in
+    let f = k2 .measure-lsa-header-fields .ensures d o in
     let u = rw (to-the-end d 20) at (c .measure-unparsed2 .ensures 31 (o + 20)) in
-    let l = length-raw (headerEntries3 d o) 31 33 (bodyOf3 d o) (drop 20 d) (o + 20) _ (answer (c .before .before .before) o) (c .before .enum-told .given .1) in
+    let l = length-raw (headerEntries3 d o) 31 33 (bodyOf3 d o) (drop 20 d) (o + 20) _ (answer (k3) o) (c .before .enum-told .given .1) in
     omega arith
 
 add-t13 : tie.Need-add-t13
