@@ -16,33 +16,29 @@ returns c = rw (lt-ltb (length (c .before .before .before .args .body .now)) 4 (
 push-router-flags-requires : tie.Need-push-router-flags-requires
 unfolding routerLsa2 encode code
 push-router-flags-requires c κs =
-    let b = c .before .before .before .before .args .body .now in
-    let t = le-ltb (length b) 4 (omega arith) in
-    let h = rw t at (c .before .before .before .before .pre .0) in
+    let s = c .before .before .before .before in
+    let h = rw (le-ltb (length (s .args .body .now)) 4 (omega arith)) at (s .pre .0) in
     omega arith
 
 push-u16-at-requires : tie.Need-push-u16-at-requires
 unfolding routerLsa2 encode code
 push-u16-at-requires c κs =
-    let b = c .before .before .before .before .before .before .before .before .args .body .now in
-    let t = le-ltb (length b) 4 (omega arith) in
-    let h = rw t at (c .before .before .before .before .before .before .before .before .pre .0) in
+    let s = c .before .before .before .before .before .before .before .before in
+    let h = rw (le-ltb (length (s .args .body .now)) 4 (omega arith)) at (s .pre .0) in
     omega arith
 
 push-links-array-requires : tie.Need-push-links-array-requires
 unfolding routerLsa2 encode code
 push-links-array-requires c κs =
-    let b = c .before .before .before .before .before .before .before .before .before .before .before .before .args .body .now in
-    let t = le-ltb (length b) 4 (omega arith) in
-    let h = rw t at (c .before .before .before .before .before .before .before .before .before .before .before .before .pre .0) in
+    let s = c .before .before .before .before .before .before .before .before .before .before .before .before in
+    let h = rw (le-ltb (length (s .args .body .now)) 4 (omega arith)) at (s .pre .0) in
     omega arith
 
 returns-2 : tie.Need-returns-2
 unfolding routerLsa2 encode code
 returns-2 c =
-    let b = c .before .before .before .before .before .before .before .before .before .before .before .before .before .before .before .args .body .now in
-    let t = le-ltb (length b) 4 (omega arith) in
-    rw t (pushed-decoded _ _ _ (c .before .before .push-links-array .ensures .1) (then (then (c .before .before .before .before .before .before .before .before .before .before .push-router-flags .ensures) (c .before .before .before .before .before .before .push-u16-at .ensures)) (c .before .before .push-links-array .ensures .0)))
+    rw (le-ltb (length (c .before .before .before .before .before .before .before .before .before .before .before .before .before .before .before .args .body .now)) 4 (omega arith))
+    (pushed-decoded _ _ _ (c .before .before .push-links-array .ensures .1) (then (then (c .before .before .before .before .before .before .before .before .before .before .push-router-flags .ensures) (c .before .before .before .before .before .before .push-u16-at .ensures)) (c .before .before .push-links-array .ensures .0)))
 
 pub push-router-lsa-spec : {M : Type 1} → statement M
 push-router-lsa-spec = tie.close (tie.spec returns push-router-flags-requires push-u16-at-requires push-links-array-requires (search needs) returns-2)

@@ -16,25 +16,22 @@ returns c = rw (lt-ltb (length (c .before .before .before .args .body .now)) 16 
 push-external-fields-requires : tie.Need-push-external-fields-requires
 unfolding externalLsa2 encode code
 push-external-fields-requires c κs =
-    let b = c .before .before .before .before .args .body .now in
-    let t = le-ltb (length b) 16 (omega arith) in
-    let h = rw t at (c .before .before .before .before .pre .0) in
+    let s = c .before .before .before .before in
+    let h = rw (le-ltb (length (s .args .body .now)) 16 (omega arith)) at (s .pre .0) in
     omega arith
 
 push-external-tos-metrics-requires : tie.Need-push-external-tos-metrics-requires
 unfolding externalLsa2 encode code
 push-external-tos-metrics-requires c κs =
-    let b = c .before .before .before .before .before .before .before .before .args .body .now in
-    let t = le-ltb (length b) 16 (omega arith) in
-    let h = rw t at (c .before .before .before .before .before .before .before .before .pre .0) in
+    let s = c .before .before .before .before .before .before .before .before in
+    let h = rw (le-ltb (length (s .args .body .now)) 16 (omega arith)) at (s .pre .0) in
     omega arith
 
 returns-2 : tie.Need-returns-2
 unfolding externalLsa2 encode code
 returns-2 c =
-    let b = c .before .before .before .before .before .before .before .before .before .before .before .args .body .now in
-    let t = le-ltb (length b) 16 (omega arith) in
-    rw t (pushed-decoded _ _ _ (c .before .before .push-external-tos-metrics .ensures .1) (then (c .before .before .before .before .before .before .push-external-fields .ensures) (c .before .before .push-external-tos-metrics .ensures .0)))
+    rw (le-ltb (length (c .before .before .before .before .before .before .before .before .before .before .before .args .body .now)) 16 (omega arith))
+    (pushed-decoded _ _ _ (c .before .before .push-external-tos-metrics .ensures .1) (then (c .before .before .before .before .before .before .push-external-fields .ensures) (c .before .before .push-external-tos-metrics .ensures .0)))
 
 pub push-external-lsa-spec : {M : Type 1} → statement M
 push-external-lsa-spec = tie.close (tie.spec returns push-external-fields-requires push-external-tos-metrics-requires (search needs) returns-2)
