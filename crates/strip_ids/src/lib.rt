@@ -1,5 +1,5 @@
-// The ids of a strip's entries, as docs/STRIP.md lists them: a module for each version's fields, and here the ids that mean
-// the same in both. A code's id stands here once; its definition's stands in the tables of crate `format`.
+// The ids of a strip's entries, as docs/STRIP.md lists them: a module for each version's fields, and here the ids that
+// both versions have. In the definitions they stand in the tables of crate `format`.
 pub mod v2;
 pub mod v3;
 

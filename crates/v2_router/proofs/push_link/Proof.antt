@@ -44,7 +44,11 @@ end-container-requires c κs =
 returns : tie.Need-returns
 unfolding link encode code
 returns c =
-    contained 96 _ _ _ (c .before .before .before .before .before .before .before .before .before .before .before .before .before .before .begin-container-at .ensures) (then (c .before .before .before .before .before .before .before .before .before .before .push-link-fields .ensures) (c .before .before .before .before .before .before .push-link-tos-metrics .ensures)) (c .before .before .end-container .ensures)
+    let k4 = c .before .before in
+    let k3 = k4 .before .before .before .before in
+    let k2 = k3 .before .before .before .before in
+    let k1 = k2 .before .before .before .before in
+    contained 96 _ _ _ (k1 .begin-container-at .ensures) (then (k2 .push-link-fields .ensures) (k3 .push-link-tos-metrics .ensures)) (k4 .end-container .ensures)
 
 pub push-link-spec : {M : Type 1} → statement M
 push-link-spec = tie.close (tie.spec

@@ -37,8 +37,11 @@ push-links-array-requires c κs =
 returns-2 : tie.Need-returns-2
 unfolding routerLsa2 encode code
 returns-2 c =
-    rw (le-ltb (length (c .before .before .before .before .before .before .before .before .before .before .before .before .before .before .before .args .body .now)) 4 (omega arith))
-    (pushed-decoded _ _ _ (c .before .before .push-links-array .ensures .1) (then (then (c .before .before .before .before .before .before .before .before .before .before .push-router-flags .ensures) (c .before .before .before .before .before .before .push-u16-at .ensures)) (c .before .before .push-links-array .ensures .0)))
+    let k3 = c .before .before in
+    let k2 = k3 .before .before .before .before in
+    let k1 = k2 .before .before .before .before in
+    rw (le-ltb (length (k1 .before .before .before .before .before .args .body .now)) 4 (omega arith))
+    (pushed-decoded _ _ _ (k3 .push-links-array .ensures .1) (then (then (k1 .push-router-flags .ensures) (k2 .push-u16-at .ensures)) (k3 .push-links-array .ensures .0)))
 
 pub push-router-lsa-spec : {M : Type 1} → statement M
 push-router-lsa-spec = tie.close (tie.spec returns push-router-flags-requires push-u16-at-requires push-links-array-requires (search needs) returns-2)

@@ -30,8 +30,10 @@ push-external-tos-metrics-requires c κs =
 returns-2 : tie.Need-returns-2
 unfolding externalLsa2 encode code
 returns-2 c =
-    rw (le-ltb (length (c .before .before .before .before .before .before .before .before .before .before .before .args .body .now)) 16 (omega arith))
-    (pushed-decoded _ _ _ (c .before .before .push-external-tos-metrics .ensures .1) (then (c .before .before .before .before .before .before .push-external-fields .ensures) (c .before .before .push-external-tos-metrics .ensures .0)))
+    let k2 = c .before .before in
+    let k1 = k2 .before .before .before .before in
+    rw (le-ltb (length (k1 .before .before .before .before .before .args .body .now)) 16 (omega arith))
+    (pushed-decoded _ _ _ (k2 .push-external-tos-metrics .ensures .1) (then (k1 .push-external-fields .ensures) (k2 .push-external-tos-metrics .ensures .0)))
 
 pub push-external-lsa-spec : {M : Type 1} → statement M
 push-external-lsa-spec = tie.close (tie.spec returns push-external-fields-requires push-external-tos-metrics-requires (search needs) returns-2)

@@ -37,8 +37,11 @@ push-summary-tos-metrics-requires c κs =
 returns-2 : tie.Need-returns-2
 unfolding summaryLsa encode code
 returns-2 c =
-    rw (le-ltb (length (c .before .before .before .before .before .before .before .before .before .before .before .before .before .before .before .args .body .now)) 8 (omega arith))
-    (pushed-decoded _ _ _ (c .before .before .push-summary-tos-metrics .ensures .1) (then (then (c .before .before .before .before .before .before .before .before .before .before .push-ipv4-at .ensures) (c .before .before .before .before .before .before .push-metric24-at .ensures)) (c .before .before .push-summary-tos-metrics .ensures .0)))
+    let k3 = c .before .before in
+    let k2 = k3 .before .before .before .before in
+    let k1 = k2 .before .before .before .before in
+    rw (le-ltb (length (k1 .before .before .before .before .before .args .body .now)) 8 (omega arith))
+    (pushed-decoded _ _ _ (k3 .push-summary-tos-metrics .ensures .1) (then (then (k1 .push-ipv4-at .ensures) (k2 .push-metric24-at .ensures)) (k3 .push-summary-tos-metrics .ensures .0)))
 
 pub push-summary-lsa-spec : {M : Type 1} → statement M
 push-summary-lsa-spec = tie.close (tie.spec

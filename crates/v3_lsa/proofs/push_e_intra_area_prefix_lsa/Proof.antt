@@ -30,9 +30,11 @@ push-tlv-body-requires c κs =
 returns-2 : tie.Need-returns-2
 unfolding tlvLsa encode code
 returns-2 c =
-    let s = c .before .before .before .before .before .before .before .before .before .before .before .args in
+    let k2 = c .before .before in
+    let k1 = k2 .before .before .before .before in
+    let s = k1 .before .before .before .before .before .args in
     let b = s .body .now in
-    rw (le-ltb (length b) 12 (omega arith)) (pushed-after (references b (s .o)) _ _ (c .before .before .before .before .before .before .push-references .ensures) (c .before .before .push-tlv-body .ensures))
+    rw (le-ltb (length b) 12 (omega arith)) (pushed-after (references b (s .o)) _ _ (k1 .push-references .ensures) (k2 .push-tlv-body .ensures))
 
 pub push-e-intra-area-prefix-lsa-spec : {M : Type 1} → statement M
 push-e-intra-area-prefix-lsa-spec = tie.close (tie.spec returns push-references-requires push-tlv-body-requires (search needs) returns-2)

@@ -8,8 +8,11 @@ use Rattle.v3_lsa.proofs.push_link.Tie as tie
 returns : tie.Need-returns
 unfolding link
 returns c =
-    let s = c .before .before .before .before .before .before .before .before .before .before .before .before .before .before .args in
-    contained 96 _ _ (linkFields (s .body .now) (s .o) (s .p)) (c .before .before .before .before .before .before .before .before .before .before .begin-container .ensures) (c .before .before .before .before .before .before .push-link-fields .ensures) (c .before .before .end-container .ensures)
+    let k3 = c .before .before in
+    let k2 = k3 .before .before .before .before in
+    let k1 = k2 .before .before .before .before in
+    let s = k1 .before .before .before .before .args in
+    contained 96 _ _ (linkFields (s .body .now) (s .o) (s .p)) (k1 .begin-container .ensures) (k2 .push-link-fields .ensures) (k3 .end-container .ensures)
 
 pub push-link-spec : {M : Type 1} → statement M
 unfolding link container encode code
