@@ -49,8 +49,8 @@ module _ (d : List ℕ) where
     two 18 (omega arith),
   )
 
--- The entries of an LSA's header are written from a place on by writing those of its first bytes, lent by themselves, to the
--- front of the strip that is lent from there on.
+-- The entries of an LSA's header are written from a place on by writing those of its first bytes, lent by themselves, to
+-- the front of the strip that is lent from there on.
 module _ (entries : List ℕ → ℕ → List Entry) (d l : List ℕ) (a o : ℕ) (front : entries (take headerSize d) o ≡ entries d o) (room : a + length (encode (entries d o)) ≤ length l) where
   pub front-room : headerSize ≤ length d → o + length d < 4294967296
       → (0 + length (encode (entries (take headerSize d) o)) ≤ length (take (length l - a) (drop a l)))

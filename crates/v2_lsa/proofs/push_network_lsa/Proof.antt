@@ -16,28 +16,24 @@ returns c = rw (lt-ltb (length (c .before .before .before .args .body .now)) 4 (
 push-ipv4-at-requires : tie.Need-push-ipv4-at-requires
 unfolding networkLsa2 encode code
 push-ipv4-at-requires c κs =
-    let b = c .before .before .before .before .args .body .now in
-    let t = le-ltb (length b) 4 (omega arith) in
-    let h = rw t at (c .before .before .before .before .pre .0) in
+    let s = c .before .before .before .before in
+    let h = rw (le-ltb (length (s .args .body .now)) 4 (omega arith)) at (s .pre .0) in
     omega arith
 
 push-attached-routers-requires : tie.Need-push-attached-routers-requires
 unfolding networkLsa2 encode code
 push-attached-routers-requires c κs =
-    let b = c .before .before .before .before .before .before .before .before .args .body .now in
-    let t = le-ltb (length b) 4 (omega arith) in
-    let h = rw t at (c .before .before .before .before .before .before .before .before .pre .0) in
+    let s = c .before .before .before .before .before .before .before .before in
+    let h = rw (le-ltb (length (s .args .body .now)) 4 (omega arith)) at (s .pre .0) in
     omega arith
 
 returns-2 : tie.Need-returns-2
 unfolding networkLsa2 encode code
 returns-2 c =
-    let k3 = c .before .before in
-    let k2 = k3 .before .before .before .before in
-    let k1 = k2 .before .before .before .before .before in
-    let b = k1 .args .body .now in
-    let t = le-ltb (length b) 4 (omega arith) in
-    rw t (pushed-decoded _ _ _ (k3 .push-attached-routers .ensures .1) (then (k2 .push-ipv4-at .ensures) (k3 .push-attached-routers .ensures .0)))
+    let k2 = c .before .before in
+    let k1 = k2 .before .before .before .before in
+    rw (le-ltb (length (k1 .before .before .before .before .before .args .body .now)) 4 (omega arith))
+    (pushed-decoded _ _ _ (k2 .push-attached-routers .ensures .1) (then (k1 .push-ipv4-at .ensures) (k2 .push-attached-routers .ensures .0)))
 
 pub push-network-lsa-spec : {M : Type 1} → statement M
 push-network-lsa-spec = tie.close (tie.spec returns push-ipv4-at-requires push-attached-routers-requires (search needs) returns-2)

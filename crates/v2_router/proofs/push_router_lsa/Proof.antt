@@ -16,37 +16,32 @@ returns c = rw (lt-ltb (length (c .before .before .before .args .body .now)) 4 (
 push-router-flags-requires : tie.Need-push-router-flags-requires
 unfolding routerLsa2 encode code
 push-router-flags-requires c κs =
-    let b = c .before .before .before .before .args .body .now in
-    let t = le-ltb (length b) 4 (omega arith) in
-    let h = rw t at (c .before .before .before .before .pre .0) in
+    let s = c .before .before .before .before in
+    let h = rw (le-ltb (length (s .args .body .now)) 4 (omega arith)) at (s .pre .0) in
     omega arith
 
 push-u16-at-requires : tie.Need-push-u16-at-requires
 unfolding routerLsa2 encode code
 push-u16-at-requires c κs =
-    let b = c .before .before .before .before .before .before .before .before .args .body .now in
-    let t = le-ltb (length b) 4 (omega arith) in
-    let h = rw t at (c .before .before .before .before .before .before .before .before .pre .0) in
+    let s = c .before .before .before .before .before .before .before .before in
+    let h = rw (le-ltb (length (s .args .body .now)) 4 (omega arith)) at (s .pre .0) in
     omega arith
 
 push-links-array-requires : tie.Need-push-links-array-requires
 unfolding routerLsa2 encode code
 push-links-array-requires c κs =
-    let b = c .before .before .before .before .before .before .before .before .before .before .before .before .args .body .now in
-    let t = le-ltb (length b) 4 (omega arith) in
-    let h = rw t at (c .before .before .before .before .before .before .before .before .before .before .before .before .pre .0) in
+    let s = c .before .before .before .before .before .before .before .before .before .before .before .before in
+    let h = rw (le-ltb (length (s .args .body .now)) 4 (omega arith)) at (s .pre .0) in
     omega arith
 
 returns-2 : tie.Need-returns-2
 unfolding routerLsa2 encode code
 returns-2 c =
-    let k4 = c .before .before in
-    let k3 = k4 .before .before .before .before in
+    let k3 = c .before .before in
     let k2 = k3 .before .before .before .before in
-    let k1 = k2 .before .before .before .before .before in
-    let b = k1 .args .body .now in
-    let t = le-ltb (length b) 4 (omega arith) in
-    rw t (pushed-decoded _ _ _ (k4 .push-links-array .ensures .1) (then (then (k2 .push-router-flags .ensures) (k3 .push-u16-at .ensures)) (k4 .push-links-array .ensures .0)))
+    let k1 = k2 .before .before .before .before in
+    rw (le-ltb (length (k1 .before .before .before .before .before .args .body .now)) 4 (omega arith))
+    (pushed-decoded _ _ _ (k3 .push-links-array .ensures .1) (then (then (k1 .push-router-flags .ensures) (k2 .push-u16-at .ensures)) (k3 .push-links-array .ensures .0)))
 
 pub push-router-lsa-spec : {M : Type 1} → statement M
 push-router-lsa-spec = tie.close (tie.spec returns push-router-flags-requires push-u16-at-requires push-links-array-requires (search needs) returns-2)

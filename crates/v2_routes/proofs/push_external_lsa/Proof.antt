@@ -16,28 +16,24 @@ returns c = rw (lt-ltb (length (c .before .before .before .args .body .now)) 16 
 push-external-fields-requires : tie.Need-push-external-fields-requires
 unfolding externalLsa2 encode code
 push-external-fields-requires c κs =
-    let b = c .before .before .before .before .args .body .now in
-    let t = le-ltb (length b) 16 (omega arith) in
-    let h = rw t at (c .before .before .before .before .pre .0) in
+    let s = c .before .before .before .before in
+    let h = rw (le-ltb (length (s .args .body .now)) 16 (omega arith)) at (s .pre .0) in
     omega arith
 
 push-external-tos-metrics-requires : tie.Need-push-external-tos-metrics-requires
 unfolding externalLsa2 encode code
 push-external-tos-metrics-requires c κs =
-    let b = c .before .before .before .before .before .before .before .before .args .body .now in
-    let t = le-ltb (length b) 16 (omega arith) in
-    let h = rw t at (c .before .before .before .before .before .before .before .before .pre .0) in
+    let s = c .before .before .before .before .before .before .before .before in
+    let h = rw (le-ltb (length (s .args .body .now)) 16 (omega arith)) at (s .pre .0) in
     omega arith
 
 returns-2 : tie.Need-returns-2
 unfolding externalLsa2 encode code
 returns-2 c =
-    let k3 = c .before .before in
-    let k2 = k3 .before .before .before .before in
-    let k1 = k2 .before .before .before .before .before in
-    let b = k1 .args .body .now in
-    let t = le-ltb (length b) 16 (omega arith) in
-    rw t (pushed-decoded _ _ _ (k3 .push-external-tos-metrics .ensures .1) (then (k2 .push-external-fields .ensures) (k3 .push-external-tos-metrics .ensures .0)))
+    let k2 = c .before .before in
+    let k1 = k2 .before .before .before .before in
+    rw (le-ltb (length (k1 .before .before .before .before .before .args .body .now)) 16 (omega arith))
+    (pushed-decoded _ _ _ (k2 .push-external-tos-metrics .ensures .1) (then (k1 .push-external-fields .ensures) (k2 .push-external-tos-metrics .ensures .0)))
 
 pub push-external-lsa-spec : {M : Type 1} → statement M
 push-external-lsa-spec = tie.close (tie.spec returns push-external-fields-requires push-external-tos-metrics-requires (search needs) returns-2)

@@ -16,37 +16,32 @@ returns c = rw (lt-ltb (length (c .before .before .before .args .body .now)) 8 (
 push-ipv4-at-requires : tie.Need-push-ipv4-at-requires
 unfolding summaryLsa encode code
 push-ipv4-at-requires c κs =
-    let b = c .before .before .before .before .args .body .now in
-    let t = le-ltb (length b) 8 (omega arith) in
-    let h = rw t at (c .before .before .before .before .pre .0) in
+    let s = c .before .before .before .before in
+    let h = rw (le-ltb (length (s .args .body .now)) 8 (omega arith)) at (s .pre .0) in
     omega arith
 
 push-metric24-at-requires : tie.Need-push-metric24-at-requires
 unfolding summaryLsa encode code
 push-metric24-at-requires c κs =
-    let b = c .before .before .before .before .before .before .before .before .args .body .now in
-    let t = le-ltb (length b) 8 (omega arith) in
-    let h = rw t at (c .before .before .before .before .before .before .before .before .pre .0) in
+    let s = c .before .before .before .before .before .before .before .before in
+    let h = rw (le-ltb (length (s .args .body .now)) 8 (omega arith)) at (s .pre .0) in
     omega arith
 
 push-summary-tos-metrics-requires : tie.Need-push-summary-tos-metrics-requires
 unfolding summaryLsa encode code
 push-summary-tos-metrics-requires c κs =
-    let b = c .before .before .before .before .before .before .before .before .before .before .before .before .args .body .now in
-    let t = le-ltb (length b) 8 (omega arith) in
-    let h = rw t at (c .before .before .before .before .before .before .before .before .before .before .before .before .pre .0) in
+    let s = c .before .before .before .before .before .before .before .before .before .before .before .before in
+    let h = rw (le-ltb (length (s .args .body .now)) 8 (omega arith)) at (s .pre .0) in
     omega arith
 
 returns-2 : tie.Need-returns-2
 unfolding summaryLsa encode code
 returns-2 c =
-    let k4 = c .before .before in
-    let k3 = k4 .before .before .before .before in
+    let k3 = c .before .before in
     let k2 = k3 .before .before .before .before in
-    let k1 = k2 .before .before .before .before .before in
-    let b = k1 .args .body .now in
-    let t = le-ltb (length b) 8 (omega arith) in
-    rw t (pushed-decoded _ _ _ (k4 .push-summary-tos-metrics .ensures .1) (then (then (k2 .push-ipv4-at .ensures) (k3 .push-metric24-at .ensures)) (k4 .push-summary-tos-metrics .ensures .0)))
+    let k1 = k2 .before .before .before .before in
+    rw (le-ltb (length (k1 .before .before .before .before .before .args .body .now)) 8 (omega arith))
+    (pushed-decoded _ _ _ (k3 .push-summary-tos-metrics .ensures .1) (then (then (k1 .push-ipv4-at .ensures) (k2 .push-metric24-at .ensures)) (k3 .push-summary-tos-metrics .ensures .0)))
 
 pub push-summary-lsa-spec : {M : Type 1} → statement M
 push-summary-lsa-spec = tie.close (tie.spec

@@ -30,12 +30,11 @@ push-tlv-body-requires c κs =
 returns-2 : tie.Need-returns-2
 unfolding tlvLsa encode code
 returns-2 c =
-    let k3 = c .before .before in
-    let k2 = k3 .before .before .before .before in
-    let k1 = k2 .before .before .before .before .before in
-    let s = k1 .args in
+    let k2 = c .before .before in
+    let k1 = k2 .before .before .before .before in
+    let s = k1 .before .before .before .before .before .args in
     let b = s .body .now in
-    rw (le-ltb (length b) 12 (omega arith)) (pushed-after (references b (s .o)) _ _ (k2 .push-references .ensures) (k3 .push-tlv-body .ensures))
+    rw (le-ltb (length b) 12 (omega arith)) (pushed-after (references b (s .o)) _ _ (k1 .push-references .ensures) (k2 .push-tlv-body .ensures))
 
 pub push-e-intra-area-prefix-lsa-spec : {M : Type 1} → statement M
 push-e-intra-area-prefix-lsa-spec = tie.close (tie.spec returns push-references-requires push-tlv-body-requires (search needs) returns-2)

@@ -39,13 +39,12 @@ push-tlv-body-requires c κs =
 returns-2 : tie.Need-returns-2
 unfolding tlvLsa encode code
 returns-2 c =
-    let k4 = c .before .before in
-    let k3 = k4 .before .before .before .before in
+    let k3 = c .before .before in
     let k2 = k3 .before .before .before .before in
-    let k1 = k2 .before .before .before .before .before in
-    let s = k1 .args in
+    let k1 = k2 .before .before .before .before in
+    let s = k1 .before .before .before .before .before .args in
     let b = s .body .now in
-    rw (le-ltb (length b) 4 (omega arith)) (pushed-after (entriesAt eLinkRows b (s .o) 0) _ _ (then (k2 .push-u8-at .ensures) (k3 .push-options .ensures)) (k4 .push-tlv-body .ensures))
+    rw (le-ltb (length b) 4 (omega arith)) (pushed-after (entriesAt eLinkRows b (s .o) 0) _ _ (then (k1 .push-u8-at .ensures) (k2 .push-options .ensures)) (k3 .push-tlv-body .ensures))
 
 pub push-e-link-lsa-spec : {M : Type 1} → statement M
 push-e-link-lsa-spec = tie.close (tie.spec returns push-u8-at-requires push-options-requires push-tlv-body-requires (search needs) returns-2)

@@ -38,12 +38,11 @@ push-ipv4-at-requires c κs =
 returns-2 : tie.Need-returns-2
 unfolding interAreaRouterLsa encode code
 returns-2 c =
-    let k4 = c .before .before in
-    let k3 = k4 .before .before .before .before in
+    let k3 = c .before .before in
     let k2 = k3 .before .before .before .before in
-    let k1 = k2 .before .before .before .before .before in
-    rw (le-ltb (length (k1 .args .body .now)) 12 (omega arith))
-    (pushed-decoded _ _ _ refl (then (then (k2 .push-options .ensures) (k3 .push-metric24-at .ensures)) (k4 .push-ipv4-at .ensures)))
+    let k1 = k2 .before .before .before .before in
+    rw (le-ltb (length (k1 .before .before .before .before .before .args .body .now)) 12 (omega arith))
+    (pushed-decoded _ _ _ refl (then (then (k1 .push-options .ensures) (k2 .push-metric24-at .ensures)) (k3 .push-ipv4-at .ensures)))
 
 pub push-inter-area-router-lsa-spec : {M : Type 1} → statement M
 push-inter-area-router-lsa-spec = tie.close (tie.spec

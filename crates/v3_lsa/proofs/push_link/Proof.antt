@@ -8,12 +8,11 @@ use Rattle.v3_lsa.proofs.push_link.Tie as tie
 returns : tie.Need-returns
 unfolding link
 returns c =
-    let k4 = c .before .before in
-    let k3 = k4 .before .before .before .before in
+    let k3 = c .before .before in
     let k2 = k3 .before .before .before .before in
     let k1 = k2 .before .before .before .before in
-    let s = k1 .args in
-    contained 96 _ _ (linkFields (s .body .now) (s .o) (s .p)) (k2 .begin-container .ensures) (k3 .push-link-fields .ensures) (k4 .end-container .ensures)
+    let s = k1 .before .before .before .before .args in
+    contained 96 _ _ (linkFields (s .body .now) (s .o) (s .p)) (k1 .begin-container .ensures) (k2 .push-link-fields .ensures) (k3 .end-container .ensures)
 
 pub push-link-spec : {M : Type 1} → statement M
 unfolding link container encode code

@@ -30,11 +30,10 @@ push-attached-routers-requires c κs =
 returns-2 : tie.Need-returns-2
 unfolding networkLsa3 encode code
 returns-2 c =
-    let k3 = c .before .before in
-    let k2 = k3 .before .before .before .before in
-    let k1 = k2 .before .before .before .before .before in
-    rw (le-ltb (length (k1 .args .body .now)) 4 (omega arith))
-    (pushed-decoded _ _ _ (k3 .push-attached-routers .ensures .1) (then (k2 .push-options .ensures) (k3 .push-attached-routers .ensures .0)))
+    let k2 = c .before .before in
+    let k1 = k2 .before .before .before .before in
+    rw (le-ltb (length (k1 .before .before .before .before .before .args .body .now)) 4 (omega arith))
+    (pushed-decoded _ _ _ (k2 .push-attached-routers .ensures .1) (then (k1 .push-options .ensures) (k2 .push-attached-routers .ensures .0)))
 
 pub push-network-lsa-spec : {M : Type 1} → statement M
 push-network-lsa-spec = tie.close (tie.spec returns push-options-requires push-attached-routers-requires (search needs) returns-2)

@@ -37,13 +37,12 @@ push-links-requires c κs =
 returns-2 : tie.Need-returns-2
 unfolding routerLsa3 encode code
 returns-2 c =
-    let k4 = c .before .before in
-    let k3 = k4 .before .before .before .before in
+    let k3 = c .before .before in
     let k2 = k3 .before .before .before .before in
-    let k1 = k2 .before .before .before .before .before in
-    let k = k4 .push-links .ensures in
-    rw (le-ltb (length (k1 .args .body .now)) 4 (omega arith))
-    (pushed-decoded _ _ _ (k .1) (then (then (k2 .push-router-flags .ensures) (k3 .push-options .ensures)) (k .0)))
+    let k1 = k2 .before .before .before .before in
+    let k = k3 .push-links .ensures in
+    rw (le-ltb (length (k1 .before .before .before .before .before .args .body .now)) 4 (omega arith))
+    (pushed-decoded _ _ _ (k .1) (then (then (k1 .push-router-flags .ensures) (k2 .push-options .ensures)) (k .0)))
 
 pub push-router-lsa-spec : {M : Type 1} → statement M
 push-router-lsa-spec = tie.close (tie.spec returns push-router-flags-requires push-options-requires push-links-requires (search needs) returns-2)

@@ -37,15 +37,13 @@ push-prefixes-requires c κs =
 returns-2 : tie.Need-returns-2
 unfolding intraAreaPrefixLsa encode code
 returns-2 c =
-    let k5 = c .before .before in
-    let k4 = k5 .before in
-    let k3 = k4 .before .before .before .before in
-    let k2 = k3 .before .before .before .before in
-    let k1 = k2 .before .before .before .before .before in
-    let k = rw (k4 .read-be-u16 .ensures) at (k5 .push-prefixes .ensures) in
-    rw (le-ltb (length (k1 .args .body .now)) 12 (omega arith))
+    let k3 = c .before .before in
+    let k2 = k3 .before .before .before .before .before in
+    let k1 = k2 .before .before .before .before in
+    let k = rw (c .before .before .before .read-be-u16 .ensures) at (k3 .push-prefixes .ensures) in
+    rw (le-ltb (length (k1 .before .before .before .before .before .args .body .now)) 12 (omega arith))
     (pushed-decoded _ _ _ (k .1)
-    (then (then (k2 .push-wide16-at .ensures) (k3 .push-references .ensures)) (k .0)))
+    (then (then (k1 .push-wide16-at .ensures) (k2 .push-references .ensures)) (k .0)))
 
 pub push-intra-area-prefix-lsa-spec : {M : Type 1} → statement M
 push-intra-area-prefix-lsa-spec = tie.close (tie.spec

@@ -51,17 +51,15 @@ push-prefixes-requires c κs =
 returns-2 : tie.Need-returns-2
 unfolding linkLsa encode code
 returns-2 c =
-    let k7 = c .before .before in
-    let k6 = k7 .before in
-    let k5 = k6 .before .before .before .before in
-    let k4 = k5 .before .before .before .before in
+    let k5 = c .before .before in
+    let k4 = k5 .before .before .before .before .before in
     let k3 = k4 .before .before .before .before in
     let k2 = k3 .before .before .before .before in
-    let k1 = k2 .before .before .before .before .before in
-    let k = rw (k6 .read-be-u32 .ensures) at (k7 .push-prefixes .ensures) in
-    rw (le-ltb (length (k1 .args .body .now)) 24 (omega arith))
+    let k1 = k2 .before .before .before .before in
+    let k = rw (c .before .before .before .read-be-u32 .ensures) at (k5 .push-prefixes .ensures) in
+    rw (le-ltb (length (k1 .before .before .before .before .before .args .body .now)) 24 (omega arith))
     (pushed-decoded _ _ _ (k .1)
-    (then (then (then (then (k2 .push-u8-at .ensures) (k3 .push-options .ensures)) (k4 .push-ipv6-at .ensures)) (k5 .push-u32-at .ensures)) (k .0)))
+    (then (then (then (then (k1 .push-u8-at .ensures) (k2 .push-options .ensures)) (k3 .push-ipv6-at .ensures)) (k4 .push-u32-at .ensures)) (k .0)))
 
 pub push-link-lsa-spec : {M : Type 1} → statement M
 push-link-lsa-spec = tie.close (tie.spec
