@@ -46,7 +46,9 @@ encode-lsa hs r u x b o =
 
 pub length-lsa : (hs : List Entry) (r u : ℕ) (x : body.Body) (b : List ℕ) (o : ℕ)
     → length (encode (hs ++ bodyEntries r u x b o)) ≡ length (encode hs) + (length (bytesOf x) + length (encode (restOf r u x b o)))
-length-lsa hs r u x b o = ap length (encode-lsa hs r u x b o) ∙ (length-append (encode hs) (bytesOf x ++ encode (restOf r u x b o)) ∙ ap (λ (k : ℕ). length (encode hs) + k) (length-append (bytesOf x) (encode (restOf r u x b o))))
+length-lsa hs r u x b o =
+    let rest = encode (restOf r u x b o) in
+    ap length (encode-lsa hs r u x b o) ∙ (length-append (encode hs) (bytesOf x ++ rest) ∙ ap (λ (k : ℕ). length (encode hs) + k) (length-append (bytesOf x) rest))
 
 -- The code's answer tells which case of the definition it is.
 pub pushed-is-decoded : (x : body.Body) (at a n : ℕ) (y : Body) → y ≡ pushedOf at x → y ≡ Decoded a n

@@ -134,7 +134,8 @@ module _ (d : List ℕ) (o : ℕ) where
   Prefixes count first = Listed (PrefixAt b) (length b) count first q 29 97 33 (v3.lsaEntries3 d o) (v3.lsaTail3 d)
 
   after-table : (m : Bool) (t : Layout) (count first : ℕ) → first ≤ length b
-      → v3.lsaEntries3 d o ≡ headerEntries3 d o ++ ((entriesAt t b q 0 ++ listing 29 (v3.prefix m b q) q first (cut prefixRule b count first)) ++ leftover 33 b q (after first (cut prefixRule b count first)))
+      → v3.lsaEntries3 d o ≡ headerEntries3 d o ++ ((entriesAt t b q 0 ++ listing 29 (v3.prefix m b q) q first (cut prefixRule b count first))
+      ++ leftover 33 b q (after first (cut prefixRule b count first)))
       → v3.lsaTail3 d ≡ length b - after first (cut prefixRule b count first) → Prefixes count first
   unfolding v3.prefix no-container
   after-table m t count first l e f =

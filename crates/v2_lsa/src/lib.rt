@@ -33,7 +33,14 @@ pub fn push_lsa(strip: &mut [u8], at: usize, lsa: &[u8], o: u32) -> usize
     let a = push_lsa_header(strip, at, lsa, o);
     let body = &lsa[LsaHeader::SIZE..];
     let start = o + LsaHeader::SIZE as u32;
-    let pushed = push_body(strip, a, lsa[3], lsa[4], body, start);
+    let pushed = push_body(
+        strip,
+        a,
+        lsa[LsaHeader::V2_TYPE_AT],
+        lsa[LsaHeader::V2_OPAQUE_TYPE_AT],
+        body,
+        start,
+    );
     match pushed {
         Body::Decoded { at, consumed } => push_unparsed(
             strip,

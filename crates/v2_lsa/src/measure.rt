@@ -29,7 +29,11 @@ pub fn measure_lsa(lsa: &[u8]) -> Lsa
 {
     let fields = measure_lsa_header_fields(lsa);
     let body = &lsa[LsaHeader::SIZE..];
-    let measured = measure_body(lsa[3], lsa[4], body);
+    let measured = measure_body(
+        lsa[LsaHeader::V2_TYPE_AT],
+        lsa[LsaHeader::V2_OPAQUE_TYPE_AT],
+        body,
+    );
     match measured {
         Measured::Decoded { length, consumed } => {
             let rest = measure_unparsed(body, consumed);

@@ -8,7 +8,8 @@ use mathlib.Core.Path.{_≡_, sym}
 use lib.ListN.{length}
 use borrow.Author.Tests.{ne-eqb, le-ltb}
 use Rattle.format.specs.Body.Body.{decoded, raw}
-use Rattle.format.specs.V3.{routerLsa3, networkLsa3, interAreaPrefixLsa, interAreaRouterLsa, externalLsa3, linkLsa, intraAreaPrefixLsa, tlvs, tlvLsa, body3, eRouterLsa, eNetworkLsa, eLinkLsa, eIntraAreaPrefixLsa}
+use Rattle.format.specs.V3.{routerLsa3, networkLsa3, interAreaPrefixLsa, interAreaRouterLsa, externalLsa3, linkLsa, intraAreaPrefixLsa}
+use Rattle.format.specs.V3.{tlvs, tlvLsa, body3, eRouterLsa, eNetworkLsa, eLinkLsa, eIntraAreaPrefixLsa}
 
 module _ (f : ℕ) (b : List ℕ) (o : ℕ) where
   pub router-body : f ≡ 1 → body3 f b o ≡ routerLsa3 b o
@@ -74,11 +75,11 @@ module _ (f : ℕ) (b : List ℕ) (o : ℕ) where
   tlvs-alone = rw (le-ltb (length b) 0 (omega arith))
 
   -- no function
-  pub no-body : (f ≡ 1 → ⊥) → (f ≡ 2 → ⊥) → (f ≡ 3 → ⊥) → (f ≡ 4 → ⊥) → ((f ≡ 5) ⊎ (f ≡ 7) → ⊥) → (f ≡ 8 → ⊥) → (f ≡ 9 → ⊥)
-      → ((f ≡ 12) ⊎ ((f ≡ 39) ⊎ (f ≡ 42)) → ⊥) → (f ≡ 33 → ⊥) → (f ≡ 34 → ⊥) → (f ≡ 40 → ⊥) → (f ≡ 41 → ⊥) → (35 ≤ f → f < 38 → ⊥)
+  pub no-body : {R : Type 0} → ((((((((((((R × (f ≡ 1 → ⊥)) × (f ≡ 2 → ⊥)) × (f ≡ 3 → ⊥)) × (f ≡ 4 → ⊥)) × ((f ≡ 5) ⊎ (f ≡ 7) → ⊥)) × (f ≡ 8 → ⊥)) × (f ≡ 9 → ⊥))
+      × ((f ≡ 12) ⊎ ((f ≡ 39) ⊎ (f ≡ 42)) → ⊥)) × (f ≡ 33 → ⊥)) × (f ≡ 34 → ⊥)) × (f ≡ 40 → ⊥)) × (f ≡ 41 → ⊥)) → (35 ≤ f → f < 38 → ⊥)
       → body3 f b o ≡ raw
   unfolding body3
-  no-body h1 h2 h3 h4 h5 h8 h9 h12 h33 h34 h40 h41 h35 =
+  no-body ((((((((((((r, h1), h2), h3), h4), h5), h8), h9), h12), h33), h34), h40), h41) h35 =
       rw (
         ne-eqb f 1 h1,
         ne-eqb f 2 h2,

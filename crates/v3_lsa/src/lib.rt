@@ -68,7 +68,7 @@ fn function_code(lsa: &[u8]) -> u16
     requires { ⌜ headerSize ≤ length (now lsa) ⌝ }
     ensures { λ r. ⌜ r ≡ functionCode (now (lsa .entry)) ⌝ }
 {
-    read_be_u16(lsa, 2) % 8192
+    read_be_u16(lsa, LsaHeader::V3_TYPE_AT) % 8192
 }
 
 // The body of a function code. RFC 5340 has codes 1 to 9.

@@ -64,7 +64,8 @@ returns-6 : tie.Need-returns-6
 returns-6 c =
     let s = c .before .before .before .before in
     rw
-    (is-raw (s .args .ls-type) (s .args .opaque-type) (s .args .body .now) (s .args .o) (c .before .match .rest .0 .0 .1) (c .before .match .rest .0 .1) (c .before .match .rest .1) (λ h l. omega arith) (λ h l. omega arith))
+    (is-raw (s .args .ls-type) (s .args .opaque-type) (s .args .body .now) (s .args .o)
+    (c .before .match .rest .0 .0 .1) (c .before .match .rest .0 .1) (c .before .match .rest .1) (λ h l. omega arith) (λ h l. omega arith))
     (pushed-raw _ _)
 
 returns-7 : tie.Need-returns-7

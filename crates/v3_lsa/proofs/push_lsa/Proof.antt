@@ -34,7 +34,10 @@ push-body-requires c κs =
     rw (c .before .before .function-code .ensures, to-the-end d 20) (omega arith)
 
 -- what `push_body` answers, of the definition
-answer : (c : tie.After-push-body) → c .push-body .result ≡ pushedOf (c .before .before .before .before .before .before .push-lsa-header .result) (bodyOf3 (c .before .before .before .before .before .before .before .before .before .before .args .lsa .now) (c .before .before .before .before .before .before .before .before .before .before .args .o))
+answer : (c : tie.After-push-body) →
+    let k = c .before .before .before .before .before .before in
+    let s = k .before .before .before .before .args in
+    c .push-body .result ≡ pushedOf (k .push-lsa-header .result) (bodyOf3 (s .lsa .now) (s .o))
 answer c =
     let k2 = c .before .before .before in
     let k1 = k2 .before .before .before .before .before .before .before in

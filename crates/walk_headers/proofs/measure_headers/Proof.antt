@@ -67,7 +67,8 @@ loop-again c =
     let q : p + 20 - p ≡ 20 = omega arith in
     let m = rw q at (c .measure-header .ensures) in (
       λ o.
-          let t : l .total + 11 + c .measure-header .result ≡ l .total + length (encode (headerObject (s .version) d o (span p 20))) = omega (arith, length-header-object (s .version) d o p 20, m (o + p)) in
+          let t : l .total + 11 + c .measure-header .result ≡ l .total + length (encode (headerObject (s .version) d o (span p 20))) =
+          omega (arith, length-header-object (s .version) d o p 20, m (o + p)) in
           rw t (measure-turn (fixedRule 20) (headerObject (s .version) d o) d _ 0 20 (l .inv .0 o) (k3 .loop-test .taken) (fixed-stands 20 d p (omega arith))),
       omega arith,
     )

@@ -28,7 +28,9 @@ loop-holds c = (λ o. measure-begin linkRule _ _ _ 4, search needs)
 enum-told : tie.Need-enum-told Inv-loop μ-loop
 enum-told c = search needs
 
-fits : (c : tie.After-known-told Inv-loop μ-loop) → linkRule (c .before .before .before .before .before .before .before .args .body .now) (c .before .before .before .before .before .loop .pos) ≡ some (c .before .n .given .0 .0)
+fits : (c : tie.After-known-told Inv-loop μ-loop) →
+    let l = c .before .before .before .before .before in
+    linkRule (l .before .before .args .body .now) (l .loop .pos) ≡ some (c .before .n .given .0 .0)
 fits c =
     let k = c .before .before .before in
     some-of _ _ (k .link-fits .result) (k .link-fits .ensures) (c .before .n .given .1)

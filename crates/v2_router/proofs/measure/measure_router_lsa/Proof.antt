@@ -22,7 +22,9 @@ returns-2 c =
     let b = k1 .args .body .now in
     let count = k2 .read-be-u16 .ensures in
     λ o. rw (le-ltb (length b) 4 (omega arith))
-    (same-decoded (let e = rw count at (c .before .measure-links .ensures .0 o) in let l = length-listing 16 (link b o) o 4 (links b) in omega arith) (rw count at (c .before .measure-links .ensures .1 .0)))
+    (same-decoded
+    (let e = rw count at (c .before .measure-links .ensures .0 o) in let l = length-listing 16 (link b o) o 4 (links b) in omega arith)
+    (rw count at (c .before .measure-links .ensures .1 .0)))
 
 pub measure-router-lsa-spec : {M : Type 1} → statement M
 measure-router-lsa-spec = tie.close (tie.spec returns (search needs) (search needs) (search needs) returns-2)

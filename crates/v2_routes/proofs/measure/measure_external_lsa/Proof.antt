@@ -21,7 +21,9 @@ returns-2 c =
     let k = c .before .before .before in
     let b = k .args .body .now in
     λ o. rw (le-ltb (length b) 16 (omega arith))
-    (same-decoded (let e = c .measure-tos-metrics .ensures .0 20 (externalTos b o) o 16 (whole 12 b 16) (λ s. refl) (whole-count 12 b 16 (omega arith)) in omega arith) (sym (whole-after 12 b 16 (omega arith))))
+    (same-decoded
+    (let e = c .measure-tos-metrics .ensures .0 20 (externalTos b o) o 16 (whole 12 b 16) (λ s. refl) (whole-count 12 b 16 (omega arith)) in omega arith)
+    (sym (whole-after 12 b 16 (omega arith))))
 
 pub measure-external-lsa-spec : {M : Type 1} → statement M
 measure-external-lsa-spec = tie.close (tie.spec

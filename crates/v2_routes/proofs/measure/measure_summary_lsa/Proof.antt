@@ -21,7 +21,9 @@ returns-2 c =
     let k = c .before .before .before in
     let b = k .args .body .now in
     λ o. rw (le-ltb (length b) 8 (omega arith))
-    (same-decoded (let e = c .measure-tos-metrics .ensures .0 20 (summaryTos b o) o 8 (whole 4 b 8) (λ s. refl) (whole-count 4 b 8 (omega arith)) in omega arith) (sym (whole-after 4 b 8 (omega arith))))
+    (same-decoded
+    (let e = c .measure-tos-metrics .ensures .0 20 (summaryTos b o) o 8 (whole 4 b 8) (λ s. refl) (whole-count 4 b 8 (omega arith)) in omega arith)
+    (sym (whole-after 4 b 8 (omega arith))))
 
 pub measure-summary-lsa-spec : {M : Type 1} → statement M
 measure-summary-lsa-spec = tie.close (tie.spec

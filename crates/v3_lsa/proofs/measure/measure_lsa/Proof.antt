@@ -33,7 +33,9 @@ parsed c o =
     let l = length-decoded (headerEntries3 d o) 31 33 (bodyOf3 d o) (drop 20 d) (o + 20) _ _ _ (answer (k3) o) (k4 .length .given .1) in
     omega arith
 
-unparsed : (c : tie.After-measure-unparsed2) (o : ℕ) → c .before .before .before .before .before .before .measure-lsa-header-fields .result + c .measure-unparsed2 .result ≡ length (encode (lsaEntries3 (c .before .before .before .before .before .before .before .before .args .lsa .now) o))
+unparsed : (c : tie.After-measure-unparsed2) (o : ℕ) →
+    let k = c .before .before .before .before .before .before in
+    k .measure-lsa-header-fields .result + c .measure-unparsed2 .result ≡ length (encode (lsaEntries3 (k .before .before .args .lsa .now) o))
 unfolding lsaEntries3
 unparsed c o =
     let k3 = c .before .before .before in
