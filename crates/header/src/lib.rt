@@ -128,9 +128,10 @@ impl LsaHeader {
     }
 }
 
-// LS sequence number, LS checksum and length, whose ids follow one another from id on; and how long they are in a strip.
+// What `push_instance_fields` writes.
 const INSTANCE_LENGTH: usize = U32_LENGTH + 2 * U16_LENGTH;
 
+// LS sequence number, LS checksum and length, whose ids follow one another from id on.
 fn push_instance_fields(strip: &mut [u8], at: usize, id: u8, body: &[u8], o: u32) -> usize
     requires { ⌜ at + length (encode (instanceEntries id (now body) o)) ≤ length (now strip) ⌝ }
     requires { ⌜ id ≤ 5 ⌝ }

@@ -1,4 +1,5 @@
 // The ids of version 2 (RFC 2328 A.4, RFC 3101, RFC 5250), in their order.
+
 // The header. Those of the LS checksum, 6, and of the length, 7, follow that of the LS sequence number.
 pub const LS_AGE: u8 = 0;
 

@@ -1,4 +1,5 @@
 // The ids of version 3 (RFC 5340 A.4, RFC 8362), in their order.
+
 // The header. Those of the LS checksum, 5, and of the length, 6, follow that of the LS sequence number.
 pub const LS_AGE: u8 = 0;
 
