@@ -10,4 +10,5 @@ returns : tie.Need-returns
 returns c = let b = c .args .body .now in (λ i o. sym (length-routers i b o (omega arith)), sym (whole-after 4 b 4 (omega arith)))
 
 pub measure-attached-routers-spec : {M : Type 1} → statement M
-measure-attached-routers-spec = tie.close (tie.spec (search needs) (search needs) (search needs) (search needs) (search needs) returns)
+measure-attached-routers-spec = tie.close (tie.spec
+    (λ c. search needs) (λ c. search needs) (λ c. search needs) (λ c. search needs) (λ c. search needs) returns)

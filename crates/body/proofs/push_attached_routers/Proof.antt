@@ -50,5 +50,6 @@ returns c =
 
 pub push-attached-routers-spec : {M : Type 1} → statement M
 push-attached-routers-spec = tie.close (tie.spec
-    (search needs) (search needs) (search needs) (search needs) (search needs) (search needs) begin-container-requires
-    push-routers-requires end-container-requires (search needs) returns)
+    (λ c. search needs) (λ c. search needs) (λ c. search needs) (λ c. search needs) (λ c. search needs)
+    (λ c. search needs) begin-container-requires push-routers-requires end-container-requires (λ c. search needs)
+    returns)

@@ -31,5 +31,5 @@ returns c = fixed-finish (c .before .loop .inv) (search needs)
 
 pub push-routers-spec : {M : Type 1} → statement M
 push-routers-spec = tie.close (tie.spec
-    Inv-loop μ-loop loop-holds push-ipv4-at-requires (search needs) (search needs) (search needs) loop-again same-length
-    returns)
+    Inv-loop μ-loop loop-holds push-ipv4-at-requires (λ c. search needs) (λ c. search needs) (λ c. search needs)
+    loop-again same-length returns)

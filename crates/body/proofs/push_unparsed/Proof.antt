@@ -32,4 +32,5 @@ returns-2 c =
 
 pub push-unparsed-spec : {M : Type 1} → statement M
 push-unparsed-spec = tie.close (tie.spec
-    (search needs) (search needs) (search needs) (search needs) push-bytes-requires (search needs) returns returns-2)
+    (λ c. search needs) (λ c. search needs) (λ c. search needs) (λ c. search needs) push-bytes-requires
+    (λ c. search needs) returns returns-2)

@@ -48,5 +48,5 @@ returns c =
 
 pub write-entries-spec : {M : Type 1} → statement M
 write-entries-spec = tie.close (tie.spec
-    Inv-loop μ-loop (search needs) loop-holds (search needs) (search needs) (search needs) (search needs)
-    write-piece-requires loop-less loop-again returns)
+    Inv-loop μ-loop (λ c. search needs) loop-holds (λ c. search needs) (λ c. search needs) (λ c. search needs)
+    (λ c. search needs) write-piece-requires loop-less loop-again returns)

@@ -10,4 +10,4 @@ add-result c =
     omega arith
 
 pub write-piece-spec : {M : Type 1} → statement M
-write-piece-spec = tie.close (tie.spec (search needs) add-result (search needs))
+write-piece-spec = tie.close (tie.spec (λ c. search needs) add-result (λ c. search needs))

@@ -21,5 +21,6 @@ write-entries-requires c κs =
 
 pub write-text-spec : {M : Type 1} → statement M
 write-text-spec = tie.close (tie.spec
-    (search needs) (search needs) (search needs) (search needs) (search needs) (search needs) (search needs)
-    write-piece-requires (search needs) (search needs) write-entries-requires (search needs))
+    (λ c. search needs) (λ c. search needs) (λ c. search needs) (λ c. search needs) (λ c. search needs)
+    (λ c. search needs) (λ c. search needs) write-piece-requires (λ c. search needs) (λ c. search needs)
+    write-entries-requires (λ c. search needs))

@@ -12,4 +12,4 @@ returns-2 : tie.Need-returns-2
 returns-2 c = rw (le-ltb (length (c .before .before .before .args .«data» .now)) 4 (omega arith)) (c .read-be-u32 .ensures)
 
 pub count-of-spec : {M : Type 1} → statement M
-count-of-spec = tie.close (tie.spec returns (search needs) returns-2)
+count-of-spec = tie.close (tie.spec returns (λ c. search needs) returns-2)

@@ -33,5 +33,6 @@ returns-3 c =
 
 pub run-spec : {M : Type 1} → statement M
 run-spec = tie.close (tie.spec
-    (search needs) returns (search needs) returns-2 (search needs) (search needs) (search needs) (search needs)
-    (search needs) (search needs) (search needs) (search needs) returns-3)
+    (λ c. search needs) returns (λ c. search needs) returns-2 (λ c. search needs) (λ c. search needs)
+    (λ c. search needs) (λ c. search needs) (λ c. search needs) (λ c. search needs) (λ c. search needs)
+    (λ c. search needs) returns-3)

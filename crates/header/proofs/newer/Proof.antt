@@ -68,4 +68,6 @@ returns-7 c =
     (c .newer-by-age .ensures)
 
 pub newer-spec : {M : Type 1} → statement M
-newer-spec = tie.close (tie.spec returns returns-2 (search needs) (search needs) returns-3 returns-4 returns-5 returns-6 (search needs) returns-7)
+newer-spec = tie.close (tie.spec
+    returns returns-2 (λ c. search needs) (λ c. search needs) returns-3 returns-4 returns-5 returns-6
+    (λ c. search needs) returns-7)

@@ -42,4 +42,4 @@ returns-6 c =
     rw (ne-eqb x 3600 (c .before .before .before .if1 .left), ne-eqb y 3600 (c .before .before .if3 .left), le-ltb (x + 900) y (omega arith), le-ltb (y + 900) x (omega arith))
 
 pub newer-by-age-spec : {M : Type 1} → statement M
-newer-by-age-spec = tie.close (tie.spec returns returns-2 returns-3 (search needs) returns-4 (search needs) returns-5 returns-6)
+newer-by-age-spec = tie.close (tie.spec returns returns-2 returns-3 (λ c. search needs) returns-4 (λ c. search needs) returns-5 returns-6)

@@ -36,5 +36,5 @@ returns-3 c =
 
 pub newer-lsa-spec : {M : Type 1} → statement M
 newer-lsa-spec = tie.close (tie.spec
-    (search needs) (search needs) (search needs) (search needs) (search needs) (search needs) (search needs) returns
-    returns-2 returns-3)
+    (λ c. search needs) (λ c. search needs) (λ c. search needs) (λ c. search needs) (λ c. search needs)
+    (λ c. search needs) (λ c. search needs) returns returns-2 returns-3)

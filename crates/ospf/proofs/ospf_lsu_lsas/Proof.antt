@@ -9,4 +9,4 @@ returns : tie.Need-returns
 returns c = (rw (c .before .before .before .push-lsu-lsas .ensures .0) at (c .pack .ensures), c .before .before .before .push-lsu-lsas .ensures .1 .0)
 
 pub ospf-lsu-lsas-spec : {M : Type 1} → statement M
-ospf-lsu-lsas-spec = tie.close (tie.spec (search needs) pack-requires (search needs) returns)
+ospf-lsu-lsas-spec = tie.close (tie.spec (λ c. search needs) pack-requires (λ c. search needs) returns)

@@ -11,4 +11,4 @@ returns-2 : tie.Need-returns-2
 returns-2 c = rw (le-ltb (c .before .args .d) 10 (omega arith))
 
 pub hex-digit-spec : {M : Type 1} → statement M
-hex-digit-spec = tie.close (tie.spec (search needs) (search needs) returns returns-2)
+hex-digit-spec = tie.close (tie.spec (λ c. search needs) (λ c. search needs) returns returns-2)

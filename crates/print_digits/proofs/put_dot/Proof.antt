@@ -12,4 +12,4 @@ returns : tie.Need-returns
 returns c = then (c .before .before .before .before .before .before .put-digits .ensures) (c .before .before .put-u8 .ensures)
 
 pub put-dot-spec : {M : Type 1} → statement M
-put-dot-spec = tie.close (tie.spec (search needs) put-u8-requires (search needs) returns)
+put-dot-spec = tie.close (tie.spec (λ c. search needs) put-u8-requires (λ c. search needs) returns)

@@ -32,5 +32,5 @@ returns c =
 
 pub put-dotted-spec : {M : Type 1} → statement M
 put-dotted-spec = tie.close (tie.spec
-    (search needs) (search needs) (search needs) put-dot-requires-2 (search needs) put-dot-requires-3 (search needs)
-    put-digits-requires (search needs) returns)
+    (λ c. search needs) (λ c. search needs) (λ c. search needs) put-dot-requires-2 (λ c. search needs)
+    put-dot-requires-3 (λ c. search needs) put-digits-requires (λ c. search needs) returns)

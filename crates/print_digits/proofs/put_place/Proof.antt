@@ -22,4 +22,4 @@ returns c =
     then (k1 .put-spaced .ensures) (then (k2 .put-spaced2 .ensures) (k3 .put-spaced3 .ensures))
 
 pub put-place-spec : {M : Type 1} → statement M
-put-place-spec = tie.close (tie.spec (search needs) put-spaced-requires-2 put-spaced-requires-3 (search needs) returns)
+put-place-spec = tie.close (tie.spec (λ c. search needs) put-spaced-requires-2 put-spaced-requires-3 (λ c. search needs) returns)

@@ -7,4 +7,4 @@ returns : tie.Need-returns
 returns c = then (c .before .before .before .before .before .before .put-u8 .ensures) (c .before .before .put-digits .ensures)
 
 pub put-spaced-spec : {M : Type 1} → statement M
-put-spaced-spec = tie.close (tie.spec (search needs) (search needs) (search needs) returns)
+put-spaced-spec = tie.close (tie.spec (λ c. search needs) (λ c. search needs) (λ c. search needs) returns)

@@ -43,5 +43,5 @@ returns c =
 
 pub put-word-spec : {M : Type 1} → statement M
 put-word-spec = tie.close (tie.spec
-    Inv-loop μ-loop loop-holds (search needs) put-u8-requires (search needs) (search needs) loop-again same-length
-    returns)
+    Inv-loop μ-loop loop-holds (λ c. search needs) put-u8-requires (λ c. search needs) (λ c. search needs) loop-again
+    same-length returns)

@@ -26,4 +26,4 @@ returns-3 c =
     rw (le-ltb (length (c .before .before .before .before .before .before .before .before .args .out .now)) lineRoom (omega arith)) (w, lendable w l (omega arith))
 
 pub answer-line-spec : {M : Type 1} → statement M
-answer-line-spec = tie.close (tie.spec returns (search needs) (search needs) (search needs) returns-2 (search needs) returns-3)
+answer-line-spec = tie.close (tie.spec returns (λ c. search needs) (λ c. search needs) (λ c. search needs) returns-2 (λ c. search needs) returns-3)

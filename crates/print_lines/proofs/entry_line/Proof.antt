@@ -20,4 +20,4 @@ returns-2 c =
     rw (le-ltb (length (c .before .before .before .before .before .before .args .out .now)) lineRoom (omega arith)) (w, lendable w l (omega arith))
 
 pub entry-line-spec : {M : Type 1} → statement M
-entry-line-spec = tie.close (tie.spec returns (search needs) (search needs) returns-2)
+entry-line-spec = tie.close (tie.spec returns (λ c. search needs) (λ c. search needs) returns-2)

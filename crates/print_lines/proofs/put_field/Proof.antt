@@ -14,4 +14,4 @@ returns c =
     (then w x, omega (arith, w .place, x .place))
 
 pub put-field-spec : {M : Type 1} → statement M
-put-field-spec = tie.close (tie.spec (search needs) (search needs) (search needs) returns)
+put-field-spec = tie.close (tie.spec (λ c. search needs) (λ c. search needs) (λ c. search needs) returns)

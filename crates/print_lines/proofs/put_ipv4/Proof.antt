@@ -23,4 +23,6 @@ returns c =
     then (then (k1 .put-field .ensures .0) (then (k2 .put-u8 .ensures) (k3 .put-dotted .ensures))) (k4 .put-u82 .ensures)
 
 pub put-ipv4-spec : {M : Type 1} → statement M
-put-ipv4-spec = tie.close (tie.spec (search needs) (search needs) (search needs) (search needs) put-u8-requires-2 (search needs) returns)
+put-ipv4-spec = tie.close (tie.spec
+    (λ c. search needs) (λ c. search needs) (λ c. search needs) (λ c. search needs) put-u8-requires-2
+    (λ c. search needs) returns)

@@ -39,5 +39,5 @@ returns c =
 
 pub put-ipv6-spec : {M : Type 1} → statement M
 put-ipv6-spec = tie.close (tie.spec
-    (search needs) (search needs) (search needs) (search needs) put-hex-requires-2 put-u8-requires-2 (search needs)
-    returns)
+    (λ c. search needs) (λ c. search needs) (λ c. search needs) (λ c. search needs) put-hex-requires-2 put-u8-requires-2
+    (λ c. search needs) returns)

@@ -20,4 +20,4 @@ returns c =
     then (then (k1 .put-field .ensures .0) (k2 .put-spaced .ensures)) (k3 .put-u8 .ensures)
 
 pub put-number-spec : {M : Type 1} → statement M
-put-number-spec = tie.close (tie.spec (search needs) (search needs) put-u8-requires (search needs) returns)
+put-number-spec = tie.close (tie.spec (λ c. search needs) (λ c. search needs) put-u8-requires (λ c. search needs) returns)

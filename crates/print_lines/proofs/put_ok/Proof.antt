@@ -47,5 +47,5 @@ returns c =
 
 pub put-ok-spec : {M : Type 1} → statement M
 put-ok-spec = tie.close (tie.spec
-    (search needs) (search needs) (search needs) put-spaced-requires-2 put-spaced-requires-3 put-u8-requires
-    (search needs) returns)
+    (λ c. search needs) (λ c. search needs) (λ c. search needs) put-spaced-requires-2 put-spaced-requires-3
+    put-u8-requires (λ c. search needs) returns)

@@ -34,5 +34,5 @@ returns c =
 
 pub put-refused-spec : {M : Type 1} → statement M
 put-refused-spec = tie.close (tie.spec
-    (search needs) (search needs) (search needs) (search needs) put-spaced-requires-2 put-u8-requires (search needs)
-    returns)
+    (λ c. search needs) (λ c. search needs) (λ c. search needs) (λ c. search needs) put-spaced-requires-2
+    put-u8-requires (λ c. search needs) returns)

@@ -60,5 +60,6 @@ returns-2 c =
 
 pub put-lines-spec : {M : Type 1} → statement M
 put-lines-spec = tie.close (tie.spec
-    Inv-loop μ-loop loop-holds (search needs) (search needs) (search needs) (search needs) (search needs) (search needs)
-    (search needs) add-length loop-less loop-again same-length returns same-length-2 returns-2)
+    Inv-loop μ-loop loop-holds (λ c. search needs) (λ c. search needs) (λ c. search needs) (λ c. search needs)
+    (λ c. search needs) (λ c. search needs) (λ c. search needs) add-length loop-less loop-again same-length returns
+    same-length-2 returns-2)

@@ -25,4 +25,4 @@ unfolding shownPart
 returns-3 c = rw (eq-eqb (c .before .before .before .before .args .answer .number) 0 (omega arith))
 
 pub shown-part-spec : {M : Type 1} → statement M
-shown-part-spec = tie.close (tie.spec (search needs) returns returns-2 slice-aggregate-result-2 returns-3)
+shown-part-spec = tie.close (tie.spec (λ c. search needs) returns returns-2 slice-aggregate-result-2 returns-3)

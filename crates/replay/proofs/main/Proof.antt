@@ -1,4 +1,4 @@
-use borrow.Author.Needs.{needs}
+use native.Mathlib.Omega.{arith}
 use Prim.Native.Nat.{_-_}
 use Rattle.replay.proofs.main.Statement.{statement}
 use Rattle.replay.proofs.main.Tie as tie
@@ -26,5 +26,5 @@ returns c = tt
 
 pub main-spec : {M : Type 1} → statement M
 main-spec = tie.close (tie.spec
-    Inv-loop μ-loop arg-count-requires loop-holds replay-argument-requires (search needs) (search needs) loop-again
-    returns)
+    Inv-loop μ-loop arg-count-requires loop-holds replay-argument-requires (λ c. omega arith) (λ c. omega arith)
+    loop-again returns)

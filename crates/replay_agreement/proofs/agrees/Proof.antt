@@ -32,5 +32,5 @@ returns c =
 
 pub agrees-spec : {M : Type 1} → statement M
 agrees-spec = tie.close (tie.spec
-    (search needs) (search needs) (search needs) (search needs) slice-aggregate-agrees-in agrees-in-requires
-    (search needs) returns)
+    (λ c. search needs) (λ c. search needs) (λ c. search needs) (λ c. search needs) slice-aggregate-agrees-in
+    agrees-in-requires (λ c. search needs) returns)

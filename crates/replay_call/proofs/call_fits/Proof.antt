@@ -44,6 +44,7 @@ returns-5 c =
 
 pub call-fits-spec : {M : Type 1} → statement M
 call-fits-spec = tie.close (tie.spec
-    (search needs) (search needs) returns (search needs) (search needs) (search needs) (search needs) (search needs)
-    returns-2 (search needs) (search needs) (search needs) (search needs) (search needs) (search needs) returns-3
-    (search needs) returns-4 (search needs) (search needs) (search needs) returns-5)
+    (λ c. search needs) (λ c. search needs) returns (λ c. search needs) (λ c. search needs) (λ c. search needs)
+    (λ c. search needs) (λ c. search needs) returns-2 (λ c. search needs) (λ c. search needs) (λ c. search needs)
+    (λ c. search needs) (λ c. search needs) (λ c. search needs) returns-3 (λ c. search needs) returns-4
+    (λ c. search needs) (λ c. search needs) (λ c. search needs) returns-5)

@@ -50,5 +50,6 @@ returns-3 c =
 
 pub is-call-spec : {M : Type 1} → statement M
 is-call-spec = tie.close (tie.spec
-    (search needs) (search needs) (search needs) enum-told (search needs) returns (search needs) (search needs)
-    (search needs) returns-2 (search needs) (search needs) (search needs) returns-3)
+    (λ c. search needs) (λ c. search needs) (λ c. search needs) enum-told (λ c. search needs) returns
+    (λ c. search needs) (λ c. search needs) (λ c. search needs) returns-2 (λ c. search needs) (λ c. search needs)
+    (λ c. search needs) returns-3)

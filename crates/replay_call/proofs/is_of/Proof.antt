@@ -19,5 +19,5 @@ returns-2 c =
 
 pub is-of-spec : {M : Type 1} → statement M
 is-of-spec = tie.close (tie.spec
-    (search needs) (search needs) (search needs) (search needs) (search needs) returns (search needs) (search needs)
-    (search needs) returns-2)
+    (λ c. search needs) (λ c. search needs) (λ c. search needs) (λ c. search needs) (λ c. search needs) returns
+    (λ c. search needs) (λ c. search needs) (λ c. search needs) returns-2)

@@ -16,4 +16,4 @@ returns-2 c =
     rw (ne-eqb (getD (s .file .now) (s .q) 0) 0 (λ e. omega arith))
 
 pub kept-at-spec : {M : Type 1} → statement M
-kept-at-spec = tie.close (tie.spec (search needs) (search needs) (search needs) (search needs) returns returns-2)
+kept-at-spec = tie.close (tie.spec (λ c. search needs) (λ c. search needs) (λ c. search needs) (λ c. search needs) returns returns-2)

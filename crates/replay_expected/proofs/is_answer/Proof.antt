@@ -44,5 +44,6 @@ returns-4 c =
 
 pub is-answer-spec : {M : Type 1} → statement M
 is-answer-spec = tie.close (tie.spec
-    (search needs) returns (search needs) (search needs) (search needs) returns-2 (search needs) (search needs)
-    (search needs) returns-3 (search needs) (search needs) (search needs) returns-4)
+    (λ c. search needs) returns (λ c. search needs) (λ c. search needs) (λ c. search needs) returns-2
+    (λ c. search needs) (λ c. search needs) (λ c. search needs) returns-3 (λ c. search needs) (λ c. search needs)
+    (λ c. search needs) returns-4)

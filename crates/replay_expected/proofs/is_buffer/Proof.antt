@@ -57,5 +57,6 @@ returns-3 c =
 
 pub is-buffer-spec : {M : Type 1} → statement M
 is-buffer-spec = tie.close (tie.spec
-    (search needs) returns (search needs) (search needs) slice-aggregate-same (search needs) (search needs)
-    (search needs) (search needs) returns-2 (search needs) (search needs) (search needs) (search needs) returns-3)
+    (λ c. search needs) returns (λ c. search needs) (λ c. search needs) slice-aggregate-same (λ c. search needs)
+    (λ c. search needs) (λ c. search needs) (λ c. search needs) returns-2 (λ c. search needs) (λ c. search needs)
+    (λ c. search needs) (λ c. search needs) returns-3)

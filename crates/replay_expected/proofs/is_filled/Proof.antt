@@ -1,4 +1,3 @@
-use borrow.Author.Needs.{needs}
 use Prim.Native.Nat.{_-_, _≤_}
 use native.Mathlib.Omega.{arith}
 use mathlib.Core.Path.{_≡_, refl, sym, _∙_}
@@ -43,4 +42,4 @@ returns-2 c =
     sym (l .inv .1 ∙ same-end s (lent (length s)) (l .i) (omega arith) (omega arith))
 
 pub is-filled-spec : {M : Type 1} → statement M
-is-filled-spec = tie.close (tie.spec Inv-loop μ-loop loop-holds (search needs) returns (search needs) (search needs) loop-again returns-2)
+is-filled-spec = tie.close (tie.spec Inv-loop μ-loop loop-holds (λ c. omega arith) returns (λ c. omega arith) (λ c. omega arith) loop-again returns-2)

@@ -1,4 +1,3 @@
-use borrow.Author.Needs.{needs}
 use Prim.Native.Nat.{_-_, _≤_}
 use native.Mathlib.Omega.{arith}
 use mathlib.Core.Path.{_≡_, refl, sym, _∙_}
@@ -43,5 +42,5 @@ returns-3 c =
 
 pub same-spec : {M : Type 1} → statement M
 same-spec = tie.close (tie.spec
-    Inv-loop μ-loop returns loop-holds (search needs) (search needs) returns-2 (search needs) (search needs) loop-again
-    returns-3)
+    Inv-loop μ-loop returns loop-holds (λ c. omega arith) (λ c. omega arith) returns-2 (λ c. omega arith)
+    (λ c. omega arith) loop-again returns-3)

@@ -63,5 +63,5 @@ returns-2 c =
 
 pub count-calls-spec : {M : Type 1} → statement M
 count-calls-spec = tie.close (tie.spec
-    Inv-loop μ-loop loop-holds (search needs) (search needs) (search needs) is-of-requires add-count add-pos
-    (search needs) (search needs) loop-again returns returns-2)
+    Inv-loop μ-loop loop-holds (λ c κs. omega arith) (λ c. search needs) (λ c. search needs) is-of-requires add-count
+    add-pos (λ c. omega arith) (λ c. omega arith) loop-again returns returns-2)

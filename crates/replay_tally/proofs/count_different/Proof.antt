@@ -81,5 +81,5 @@ returns-2 c =
 
 pub count-different-spec : {M : Type 1} → statement M
 count-different-spec = tie.close (tie.spec
-    Inv-loop μ-loop loop-holds (search needs) (search needs) (search needs) agrees-requires add-different add-pos
-    (search needs) (search needs) loop-again same-length returns same-length-2 returns-2)
+    Inv-loop μ-loop loop-holds (λ c κs. omega arith) (λ c. search needs) (λ c. search needs) agrees-requires
+    add-different add-pos (λ c. omega arith) (λ c. omega arith) loop-again same-length returns same-length-2 returns-2)

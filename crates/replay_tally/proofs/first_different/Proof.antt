@@ -93,5 +93,5 @@ returns c = let e = stopped c in (sym (e .first), e .left)
 
 pub first-different-spec : {M : Type 1} → statement M
 first-different-spec = tie.close (tie.spec
-    Inv-loop μ-loop loop-holds (search needs) (search needs) (search needs) agrees-requires add-pos (search needs)
-    (search needs) loop-again (search needs) same-length returns)
+    Inv-loop μ-loop loop-holds (λ c κs. omega arith) (λ c. search needs) (λ c. search needs) agrees-requires add-pos
+    (λ c. omega arith) (λ c. omega arith) loop-again (λ c. omega arith) same-length returns)

@@ -55,5 +55,5 @@ returns c = let d = calling-end (c .before .loop .inv) (stopped c) in (sym (d .2
 
 pub whole-calls-spec : {M : Type 1} → statement M
 whole-calls-spec = tie.close (tie.spec
-    Inv-loop μ-loop loop-holds (search needs) (search needs) (search needs) add-pos (search needs) (search needs)
-    loop-again (search needs) returns)
+    Inv-loop μ-loop loop-holds (λ c κs. omega arith) (λ c. search needs) (λ c. search needs) add-pos (λ c. omega arith)
+    (λ c. omega arith) loop-again (λ c. omega arith) returns)

@@ -8,4 +8,4 @@ unfolding code
 returns c = c .before .before .put-head-at .ensures
 
 pub begin-container-at-spec : {M : Type 1} → statement M
-begin-container-at-spec = tie.close (tie.spec (search needs) (search needs) returns)
+begin-container-at-spec = tie.close (tie.spec (λ c. search needs) (λ c. search needs) returns)

@@ -8,4 +8,4 @@ unfolding code
 returns c = c .before .before .put-u8 .ensures
 
 pub end-container-spec : {M : Type 1} → statement M
-end-container-spec = tie.close (tie.spec (search needs) (search needs) returns)
+end-container-spec = tie.close (tie.spec (λ c. search needs) (λ c. search needs) returns)

@@ -8,4 +8,4 @@ unfolding code
 returns c = c .before .before .put-head .ensures
 
 pub push-bytes-spec : {M : Type 1} → statement M
-push-bytes-spec = tie.close (tie.spec (search needs) (search needs) returns)
+push-bytes-spec = tie.close (tie.spec (λ c. search needs) (λ c. search needs) returns)

@@ -6,4 +6,4 @@ returns : tie.Need-returns
 returns c = rw (c .before .before .before .read-ipv4-addr .ensures) at (c .before .before .push-ipv4 .ensures)
 
 pub push-ipv4-at-spec : {M : Type 1} → statement M
-push-ipv4-at-spec = tie.close (tie.spec (search needs) (search needs) (search needs) returns)
+push-ipv4-at-spec = tie.close (tie.spec (λ c. search needs) (λ c. search needs) (λ c. search needs) returns)

@@ -13,4 +13,4 @@ returns c =
     then (then (k1 .put-head-at .ensures) (k2 .put-u64 .ensures)) (k3 .put-u642 .ensures)
 
 pub push-ipv6-spec : {M : Type 1} → statement M
-push-ipv6-spec = tie.close (tie.spec (search needs) (search needs) (search needs) (search needs) returns)
+push-ipv6-spec = tie.close (tie.spec (λ c. search needs) (λ c. search needs) (λ c. search needs) (λ c. search needs) returns)

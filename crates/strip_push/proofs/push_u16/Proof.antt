@@ -12,4 +12,4 @@ returns c =
     then (k1 .put-head-at .ensures) (k2 .put-u16 .ensures)
 
 pub push-u16-spec : {M : Type 1} → statement M
-push-u16-spec = tie.close (tie.spec (search needs) (search needs) (search needs) returns)
+push-u16-spec = tie.close (tie.spec (λ c. search needs) (λ c. search needs) (λ c. search needs) returns)

@@ -6,4 +6,4 @@ returns : tie.Need-returns
 returns c = c .before .before .push-u8 .ensures
 
 pub push-u8-at-spec : {M : Type 1} → statement M
-push-u8-at-spec = tie.close (tie.spec (search needs) (search needs) (search needs) returns)
+push-u8-at-spec = tie.close (tie.spec (λ c. search needs) (λ c. search needs) (λ c. search needs) returns)

@@ -15,4 +15,6 @@ returns c =
     then (then (k1 .put-u8 .ensures) (k2 .put-u82 .ensures)) (written-as (swapped-pair (a .start) (a .end) (omega arith) (omega arith)) w)
 
 pub put-head-spec : {M : Type 1} → statement M
-put-head-spec = tie.close (tie.spec (search needs) (search needs) (search needs) (search needs) (search needs) (search needs) (search needs) returns)
+put-head-spec = tie.close (tie.spec
+    (λ c. search needs) (λ c. search needs) (λ c. search needs) (λ c. search needs) (λ c. search needs)
+    (λ c. search needs) (λ c. search needs) returns)

@@ -16,5 +16,5 @@ returns c =
 
 pub put-head-at-spec : {M : Type 1} → statement M
 put-head-at-spec = tie.close (tie.spec
-    (search needs) (search needs) (search needs) (search needs) (search needs) (search needs) (search needs)
-    (search needs) (search needs) returns)
+    (λ c. search needs) (λ c. search needs) (λ c. search needs) (λ c. search needs) (λ c. search needs)
+    (λ c. search needs) (λ c. search needs) (λ c. search needs) (λ c. search needs) returns)

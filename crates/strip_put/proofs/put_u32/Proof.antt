@@ -11,4 +11,4 @@ returns c =
     written-as (swapped32 x (omega arith)) w
 
 pub put-u32-spec : {M : Type 1} → statement M
-put-u32-spec = tie.close (tie.spec (search needs) (search needs) (search needs) returns)
+put-u32-spec = tie.close (tie.spec (λ c. search needs) (λ c. search needs) (λ c. search needs) returns)

@@ -10,4 +10,4 @@ returns c =
     then (k1 .put-u32 .ensures) (k2 .put-u322 .ensures)
 
 pub put-u64-spec : {M : Type 1} → statement M
-put-u64-spec = tie.close (tie.spec (search needs) (search needs) (search needs) (search needs) (search needs) returns)
+put-u64-spec = tie.close (tie.spec (λ c. search needs) (λ c. search needs) (λ c. search needs) (λ c. search needs) (λ c. search needs) returns)

@@ -19,12 +19,6 @@ returns-9 c =
 
 pub body-length-spec : {M : Type 1} → statement M
 body-length-spec = tie.close (tie.spec
-    (λ c. rw (c .match .keys1))
-    (λ c. rw (c .match .keys2))
-    (λ c. rw (c .match .keys3))
-    (λ c. rw (c .match .keys4))
-    (λ c. rw (c .match .keys5))
-    (λ c. rw (c .match .keys6))
-    (λ c. rw (c .match .keys7))
-    (λ c. rw (c .match .keys8))
+    (λ c. rw (c .match .keys1)) (λ c. rw (c .match .keys2)) (λ c. rw (c .match .keys3)) (λ c. rw (c .match .keys4))
+    (λ c. rw (c .match .keys5)) (λ c. rw (c .match .keys6)) (λ c. rw (c .match .keys7)) (λ c. rw (c .match .keys8))
     returns-9)

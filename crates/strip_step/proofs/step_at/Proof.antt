@@ -81,5 +81,5 @@ returns-5 c =
 
 pub step-at-spec : {M : Type 1} → statement M
 step-at-spec = tie.close (tie.spec
-    returns returns-2 (search needs) (search needs) (search needs) enum-told returns-3 (search needs) (search needs)
-    returns-4 entry-at-requires (search needs) returns-5)
+    returns returns-2 (λ c. search needs) (λ c. search needs) (λ c. search needs) enum-told returns-3
+    (λ c. search needs) (λ c. search needs) returns-4 entry-at-requires (λ c. search needs) returns-5)

@@ -41,4 +41,4 @@ returns-5 : tie.Need-returns-5
 returns-5 c = rw (compared (c .before), c .if4 .left)
 
 pub compare-prefixes-spec : {M : Type 1} → statement M
-compare-prefixes-spec = tie.close (tie.spec returns returns-2 returns-3 (search needs) returns-4 returns-5)
+compare-prefixes-spec = tie.close (tie.spec returns returns-2 returns-3 (λ c. search needs) returns-4 returns-5)

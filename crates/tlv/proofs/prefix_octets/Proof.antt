@@ -14,4 +14,4 @@ unfolding octets
 returns-2 c = simp (lt-leb (c .before .args .prefix-length) 128 (omega arith))
 
 pub prefix-octets-spec : {M : Type 1} → statement M
-prefix-octets-spec = tie.close (tie.spec (search needs) (search needs) returns returns-2)
+prefix-octets-spec = tie.close (tie.spec (λ c. search needs) (λ c. search needs) returns returns-2)

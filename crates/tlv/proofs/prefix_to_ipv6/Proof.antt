@@ -1,4 +1,3 @@
-use borrow.Author.Needs.{needs}
 use Prim.Native.Nat.{_-_, _≤_}
 use native.Mathlib.Omega.{arith}
 use mathlib.Core.Path.{_≡_, refl, _∙_}
@@ -35,4 +34,6 @@ returns c =
     h .4 ∙ rw e (h .3)
 
 pub prefix-to-ipv6-spec : {M : Type 1} → statement M
-prefix-to-ipv6-spec = tie.close (tie.spec Inv-loop μ-loop loop-holds (search needs) (search needs) (search needs) (search needs) loop-again returns)
+prefix-to-ipv6-spec = tie.close (tie.spec
+    Inv-loop μ-loop loop-holds (λ c. omega arith) (λ c. omega arith) (λ c. omega arith) (λ c. omega arith) loop-again
+    returns)

@@ -17,4 +17,6 @@ add-result-2 : tie.Need-add-result-2
 add-result-2 c = omega (arith, c .shared-slice-known2 .given (c .before .before .args .p + 1), c .before .shared-slice-known .given (c .before .before .args .p))
 
 pub read-be-u16-spec : {M : Type 1} → statement M
-read-be-u16-spec = tie.close (tie.spec (search needs) cast-result mul-result (search needs) (search needs) cast-result-2 add-result-2 (search needs))
+read-be-u16-spec = tie.close (tie.spec
+    (λ c. search needs) cast-result mul-result (λ c. search needs) (λ c. search needs) cast-result-2 add-result-2
+    (λ c. search needs))

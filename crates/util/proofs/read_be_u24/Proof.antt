@@ -13,4 +13,6 @@ add-result : tie.Need-add-result
 add-result c = omega (arith, c .before .shared-slice-known2 .given (c .before .before .before .args .p))
 
 pub read-be-u24-spec : {M : Type 1} → statement M
-read-be-u24-spec = tie.close (tie.spec (search needs) cast-result mul-result (search needs) (search needs) (search needs) add-result (search needs))
+read-be-u24-spec = tie.close (tie.spec
+    (λ c. search needs) cast-result mul-result (λ c. search needs) (λ c. search needs) (λ c. search needs) add-result
+    (λ c. search needs))

@@ -87,5 +87,5 @@ returns-8 c =
 pub push-body-spec : {M : Type 1} → statement M
 push-body-spec = tie.close (tie.spec
     push-router-lsa-requires push-network-lsa-requires push-external-lsa-requires push-summary-lsa-requires
-    push-opaque-lsa-requires (search needs) returns (search needs) returns-2 (search needs) returns-3 (search needs)
-    returns-4 (search needs) returns-5 returns-6 returns-7 returns-8)
+    push-opaque-lsa-requires (λ c. search needs) returns (λ c. search needs) returns-2 (λ c. search needs) returns-3
+    (λ c. search needs) returns-4 (λ c. search needs) returns-5 returns-6 returns-7 returns-8)

@@ -27,4 +27,6 @@ returns-2 c =
     rw t (pushed-raw _ _)
 
 pub push-opaque-lsa-spec : {M : Type 1} → statement M
-push-opaque-lsa-spec = tie.close (tie.spec (search needs) (search needs) (search needs) push-bytes-requires (search needs) returns returns-2)
+push-opaque-lsa-spec = tie.close (tie.spec
+    (λ c. search needs) (λ c. search needs) (λ c. search needs) push-bytes-requires (λ c. search needs) returns
+    returns-2)

@@ -40,4 +40,6 @@ returns-3 c =
     rw (le-leb (p + 12) (length b) (omega arith), le-leb 12 n (omega arith), le-leb (p + n) (length b) (omega arith))
 
 pub link-fits-spec : {M : Type 1} → statement M
-link-fits-spec = tie.close (tie.spec (search needs) returns (search needs) (search needs) cast-n mul-n add-n-2 (search needs) returns-2 returns-3)
+link-fits-spec = tie.close (tie.spec
+    (λ c. search needs) returns (λ c. search needs) (λ c. search needs) cast-n mul-n add-n-2 (λ c. search needs)
+    returns-2 returns-3)

@@ -53,4 +53,4 @@ returns c =
 pub push-link-spec : {M : Type 1} → statement M
 push-link-spec = tie.close (tie.spec
     begin-container-at-requires push-link-fields-requires push-link-tos-metrics-requires end-container-requires
-    (search needs) returns)
+    (λ c. search needs) returns)

@@ -30,5 +30,5 @@ returns c = fixed-finish (c .before .loop .inv) (search needs)
 
 pub push-link-tos-entries-spec : {M : Type 1} → statement M
 push-link-tos-entries-spec = tie.close (tie.spec
-    Inv-loop μ-loop loop-holds push-link-tos-entry-requires (search needs) (search needs) (search needs) loop-again
-    same-length returns)
+    Inv-loop μ-loop loop-holds push-link-tos-entry-requires (λ c. search needs) (λ c. search needs) (λ c. search needs)
+    loop-again same-length returns)

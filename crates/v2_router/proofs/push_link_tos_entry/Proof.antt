@@ -22,5 +22,5 @@ returns c =
 pub push-link-tos-entry-spec : {M : Type 1} → statement M
 unfolding code encode container linkTos
 push-link-tos-entry-spec = tie.close (tie.spec
-    (search needs) (search needs) (search needs) (search needs) (search needs) (search needs) (search needs)
-    (search needs) returns)
+    (λ c. search needs) (λ c. search needs) (λ c. search needs) (λ c. search needs) (λ c. search needs)
+    (λ c. search needs) (λ c. search needs) (λ c. search needs) returns)

@@ -8,4 +8,4 @@ returns c = c .before .before .push-wide16-at .ensures
 
 pub push-link-tos-metric-spec : {M : Type 1} → statement M
 unfolding code
-push-link-tos-metric-spec = tie.close (tie.spec (search needs) (search needs) (search needs) returns)
+push-link-tos-metric-spec = tie.close (tie.spec (λ c. search needs) (λ c. search needs) (λ c. search needs) returns)

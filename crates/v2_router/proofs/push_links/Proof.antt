@@ -119,6 +119,7 @@ returns-2 c =
 
 pub push-links-spec : {M : Type 1} → statement M
 push-links-spec = tie.close (tie.spec
-    Inv-loop μ-loop (search needs) (search needs) (search needs) (search needs) loop-holds sub-end (search needs)
-    (search needs) (search needs) sub-end-2 push-link-requires sub-rest-2 part-rest-start-2 part-rest-end-2 cast-start
-    add-start-2 (search needs) (search needs) loop-again same-length returns same-length-2 returns-2)
+    Inv-loop μ-loop (λ c. search needs) (λ c. search needs) (λ c. search needs) (λ c. search needs) loop-holds sub-end
+    (λ c. search needs) (λ c. search needs) (λ c. search needs) sub-end-2 push-link-requires sub-rest-2
+    part-rest-start-2 part-rest-end-2 cast-start add-start-2 (λ c. search needs) (λ c. search needs) loop-again
+    same-length returns same-length-2 returns-2)

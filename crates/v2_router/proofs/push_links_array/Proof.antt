@@ -55,5 +55,5 @@ returns c =
 
 pub push-links-array-spec : {M : Type 1} → statement M
 push-links-array-spec = tie.close (tie.spec
-    (search needs) (search needs) push-links-requires (search needs) (search needs) (search needs)
-    begin-container-requires end-container-requires (search needs) returns)
+    (λ c. search needs) (λ c. search needs) push-links-requires (λ c. search needs) (λ c. search needs)
+    (λ c. search needs) begin-container-requires end-container-requires (λ c. search needs) returns)

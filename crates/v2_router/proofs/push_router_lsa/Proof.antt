@@ -44,4 +44,5 @@ returns-2 c =
     (pushed-decoded _ _ _ (k3 .push-links-array .ensures .1) (then (then (k1 .push-router-flags .ensures) (k2 .push-u16-at .ensures)) (k3 .push-links-array .ensures .0)))
 
 pub push-router-lsa-spec : {M : Type 1} → statement M
-push-router-lsa-spec = tie.close (tie.spec returns push-router-flags-requires push-u16-at-requires push-links-array-requires (search needs) returns-2)
+push-router-lsa-spec = tie.close (tie.spec
+    returns push-router-flags-requires push-u16-at-requires push-links-array-requires (λ c. search needs) returns-2)

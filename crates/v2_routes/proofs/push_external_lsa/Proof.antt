@@ -36,4 +36,4 @@ returns-2 c =
     (pushed-decoded _ _ _ (k2 .push-external-tos-metrics .ensures .1) (then (k1 .push-external-fields .ensures) (k2 .push-external-tos-metrics .ensures .0)))
 
 pub push-external-lsa-spec : {M : Type 1} → statement M
-push-external-lsa-spec = tie.close (tie.spec returns push-external-fields-requires push-external-tos-metrics-requires (search needs) returns-2)
+push-external-lsa-spec = tie.close (tie.spec returns push-external-fields-requires push-external-tos-metrics-requires (λ c. search needs) returns-2)

@@ -42,5 +42,6 @@ returns-2 c =
 
 pub push-external-tos-metrics-spec : {M : Type 1} → statement M
 push-external-tos-metrics-spec = tie.close (tie.spec
-    (search needs) returns (search needs) (search needs) (search needs) (search needs) (search needs)
-    begin-container-requires push-external-tos-entries-requires end-container-requires (search needs) returns-2)
+    (λ c. search needs) returns (λ c. search needs) (λ c. search needs) (λ c. search needs) (λ c. search needs)
+    (λ c. search needs) begin-container-requires push-external-tos-entries-requires end-container-requires
+    (λ c. search needs) returns-2)

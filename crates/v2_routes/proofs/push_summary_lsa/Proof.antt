@@ -45,4 +45,5 @@ returns-2 c =
 
 pub push-summary-lsa-spec : {M : Type 1} → statement M
 push-summary-lsa-spec = tie.close (tie.spec
-    returns push-ipv4-at-requires push-metric24-at-requires push-summary-tos-metrics-requires (search needs) returns-2)
+    returns push-ipv4-at-requires push-metric24-at-requires push-summary-tos-metrics-requires (λ c. search needs)
+    returns-2)

@@ -30,5 +30,5 @@ returns c = fixed-finish (c .before .loop .inv) (search needs)
 
 pub push-summary-tos-entries-spec : {M : Type 1} → statement M
 push-summary-tos-entries-spec = tie.close (tie.spec
-    Inv-loop μ-loop loop-holds push-summary-tos-entry-requires (search needs) (search needs) (search needs) loop-again
-    same-length returns)
+    Inv-loop μ-loop loop-holds push-summary-tos-entry-requires (λ c. search needs) (λ c. search needs)
+    (λ c. search needs) loop-again same-length returns)

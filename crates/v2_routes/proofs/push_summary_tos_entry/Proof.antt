@@ -1,3 +1,4 @@
+use native.Mathlib.Omega.{arith}
 use Rattle.format.specs.V2.{summaryTos}
 use Rattle.format.specs.Strip.{code, encode, container}
 use Rattle.format.proofs.Wrote.{then}
@@ -17,5 +18,5 @@ returns c =
 pub push-summary-tos-entry-spec : {M : Type 1} → statement M
 unfolding code encode container summaryTos
 push-summary-tos-entry-spec = tie.close (tie.spec
-    (search needs) (search needs) (search needs) (search needs) (search needs) (search needs) (search needs)
-    (search needs) (search needs) returns)
+    (λ c. search needs) (λ c. search needs) (λ c. search needs) (λ c. search needs) (λ c κs. omega arith)
+    (λ c. search needs) (λ c κs. omega arith) (λ c κs. omega arith) (λ c. search needs) returns)

@@ -19,4 +19,4 @@ returns c =
     omega arith
 
 pub external-end-spec : {M : Type 1} → statement M
-external-end-spec = tie.close (tie.spec (search needs) (search needs) (search needs) add-result returns)
+external-end-spec = tie.close (tie.spec (λ c. search needs) (λ c. search needs) (λ c. search needs) add-result returns)

@@ -6,4 +6,4 @@ returns : tie.Need-returns
 returns c = rw (c .read-be-u16 .ensures)
 
 pub has-reference-spec : {M : Type 1} → statement M
-has-reference-spec = tie.close (tie.spec (search needs) returns)
+has-reference-spec = tie.close (tie.spec (λ c. search needs) returns)

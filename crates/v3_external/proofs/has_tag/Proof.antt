@@ -8,4 +8,4 @@ returns : tie.Need-returns
 returns c = rw (div-one (getD (c .before .args .body .now) 0 0))
 
 pub has-tag-spec : {M : Type 1} → statement M
-has-tag-spec = tie.close (tie.spec (search needs) returns)
+has-tag-spec = tie.close (tie.spec (λ c. search needs) returns)

@@ -84,5 +84,6 @@ returns-3 c =
 
 pub push-external-lsa-spec : {M : Type 1} → statement M
 push-external-lsa-spec = tie.close (tie.spec
-    (search needs) (search needs) enum-told returns external-end-requires returns-2 push-external-flags-requires
-    push-external-prefix-requires push-external-optional-requires (search needs) returns-3)
+    (λ c. search needs) (λ c. search needs) enum-told returns external-end-requires returns-2
+    push-external-flags-requires push-external-prefix-requires push-external-optional-requires (λ c. search needs)
+    returns-3)

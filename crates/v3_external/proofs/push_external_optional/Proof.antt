@@ -38,4 +38,4 @@ returns c =
 pub push-external-optional-spec : {M : Type 1} → statement M
 push-external-optional-spec = tie.close (tie.spec
     push-forwarding-address-requires push-external-route-tag-requires push-referenced-link-state-id-requires
-    (search needs) returns)
+    (λ c. search needs) returns)

@@ -27,4 +27,4 @@ unfolding encode code
 returns-2 c = rw (sym (c .before .has-tag .ensures) ∙ c .if1 .left) (nothing _ _)
 
 pub push-external-route-tag-spec : {M : Type 1} → statement M
-push-external-route-tag-spec = tie.close (tie.spec (search needs) (search needs) push-u32-at-requires (search needs) returns returns-2)
+push-external-route-tag-spec = tie.close (tie.spec (λ c. search needs) (λ c. search needs) push-u32-at-requires (λ c. search needs) returns returns-2)

@@ -22,4 +22,5 @@ unfolding encode code
 returns-2 c = rw (sym (c .before .has-forwarding .ensures) ∙ c .if1 .left) (nothing _ _)
 
 pub push-forwarding-address-spec : {M : Type 1} → statement M
-push-forwarding-address-spec = tie.close (tie.spec (search needs) (search needs) push-ipv6-at-requires (search needs) returns returns-2)
+push-forwarding-address-spec = tie.close (tie.spec
+    (λ c. search needs) (λ c. search needs) push-ipv6-at-requires (λ c. search needs) returns returns-2)

@@ -27,4 +27,5 @@ unfolding encode code
 returns-2 c = rw (sym (c .before .has-reference .ensures) ∙ c .if1 .left) (nothing _ _)
 
 pub push-referenced-link-state-id-spec : {M : Type 1} → statement M
-push-referenced-link-state-id-spec = tie.close (tie.spec (search needs) (search needs) push-u32-at-requires (search needs) returns returns-2)
+push-referenced-link-state-id-spec = tie.close (tie.spec
+    (λ c. search needs) (λ c. search needs) push-u32-at-requires (λ c. search needs) returns returns-2)

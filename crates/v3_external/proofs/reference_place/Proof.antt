@@ -18,4 +18,4 @@ returns c =
     omega arith
 
 pub reference-place-spec : {M : Type 1} → statement M
-reference-place-spec = tie.close (tie.spec (search needs) (search needs) (search needs) add-result returns)
+reference-place-spec = tie.close (tie.spec (λ c. search needs) (λ c. search needs) (λ c. search needs) add-result returns)

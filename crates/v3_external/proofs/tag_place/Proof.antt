@@ -15,4 +15,4 @@ returns c =
     omega arith
 
 pub tag-place-spec : {M : Type 1} → statement M
-tag-place-spec = tie.close (tie.spec (search needs) (search needs) (search needs) add-result-2 returns)
+tag-place-spec = tie.close (tie.spec (λ c. search needs) (λ c. search needs) (λ c. search needs) add-result-2 returns)

@@ -151,7 +151,8 @@ push-body-spec = tie.close (tie.spec
     push-router-lsa-requires push-network-lsa-requires push-inter-area-prefix-lsa-requires
     push-inter-area-router-lsa-requires push-external-lsa-requires push-link-lsa-requires
     push-intra-area-prefix-lsa-requires push-e-router-lsa-requires push-e-network-lsa-requires push-e-link-lsa-requires
-    push-e-intra-area-prefix-lsa-requires push-tlv-body-requires (search needs) returns (search needs) returns-2
-    (search needs) returns-3 (search needs) returns-4 (search needs) returns-5 (search needs) returns-6 (search needs)
-    returns-7 (search needs) returns-8 (search needs) returns-9 (search needs) returns-10 (search needs) returns-11
-    returns-12 returns-13 (search needs) returns-14)
+    push-e-intra-area-prefix-lsa-requires push-tlv-body-requires (λ c. search needs) returns (λ c. search needs)
+    returns-2 (λ c. search needs) returns-3 (λ c. search needs) returns-4 (λ c. search needs) returns-5
+    (λ c. search needs) returns-6 (λ c. search needs) returns-7 (λ c. search needs) returns-8 (λ c. search needs)
+    returns-9 (λ c. search needs) returns-10 (λ c. search needs) returns-11 returns-12 returns-13 (λ c. search needs)
+    returns-14)

@@ -37,4 +37,4 @@ returns-2 c =
     rw (le-ltb (length b) 12 (omega arith)) (pushed-after (references b (s .o)) _ _ (k1 .push-references .ensures) (k2 .push-tlv-body .ensures))
 
 pub push-e-intra-area-prefix-lsa-spec : {M : Type 1} → statement M
-push-e-intra-area-prefix-lsa-spec = tie.close (tie.spec returns push-references-requires push-tlv-body-requires (search needs) returns-2)
+push-e-intra-area-prefix-lsa-spec = tie.close (tie.spec returns push-references-requires push-tlv-body-requires (λ c. search needs) returns-2)

@@ -47,4 +47,4 @@ returns-2 c =
     rw (le-ltb (length b) 4 (omega arith)) (pushed-after (entriesAt eLinkRows b (s .o) 0) _ _ (then (k1 .push-u8-at .ensures) (k2 .push-options .ensures)) (k3 .push-tlv-body .ensures))
 
 pub push-e-link-lsa-spec : {M : Type 1} → statement M
-push-e-link-lsa-spec = tie.close (tie.spec returns push-u8-at-requires push-options-requires push-tlv-body-requires (search needs) returns-2)
+push-e-link-lsa-spec = tie.close (tie.spec returns push-u8-at-requires push-options-requires push-tlv-body-requires (λ c. search needs) returns-2)

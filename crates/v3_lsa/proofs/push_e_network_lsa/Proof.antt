@@ -38,4 +38,4 @@ returns-2 c =
     rw (le-ltb (length b) 4 (omega arith)) (pushed-after (entriesAt networkRows b (s .o) 0) _ _ (k1 .push-options .ensures) (k2 .push-tlv-body .ensures))
 
 pub push-e-network-lsa-spec : {M : Type 1} → statement M
-push-e-network-lsa-spec = tie.close (tie.spec returns push-options-requires push-tlv-body-requires (search needs) returns-2)
+push-e-network-lsa-spec = tie.close (tie.spec returns push-options-requires push-tlv-body-requires (λ c. search needs) returns-2)

@@ -47,4 +47,5 @@ returns-2 c =
     rw (le-ltb (length b) 4 (omega arith)) (pushed-after (entriesAt routerRows b (s .o) 0) _ _ (then (k1 .push-router-flags .ensures) (k2 .push-options .ensures)) (k3 .push-tlv-body .ensures))
 
 pub push-e-router-lsa-spec : {M : Type 1} → statement M
-push-e-router-lsa-spec = tie.close (tie.spec returns push-router-flags-requires push-options-requires push-tlv-body-requires (search needs) returns-2)
+push-e-router-lsa-spec = tie.close (tie.spec
+    returns push-router-flags-requires push-options-requires push-tlv-body-requires (λ c. search needs) returns-2)

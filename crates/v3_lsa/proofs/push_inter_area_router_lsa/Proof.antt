@@ -46,4 +46,4 @@ returns-2 c =
 
 pub push-inter-area-router-lsa-spec : {M : Type 1} → statement M
 push-inter-area-router-lsa-spec = tie.close (tie.spec
-    returns push-options-requires push-metric24-at-requires push-ipv4-at-requires (search needs) returns-2)
+    returns push-options-requires push-metric24-at-requires push-ipv4-at-requires (λ c. search needs) returns-2)

@@ -1,3 +1,4 @@
+use native.Mathlib.Omega.{arith}
 use borrow.Author.Needs.{needs}
 use Rattle.format.specs.Strip.{container, encode, code}
 use Rattle.format.specs.V3.{link, linkFields}
@@ -16,4 +17,6 @@ returns c =
 
 pub push-link-spec : {M : Type 1} → statement M
 unfolding link container encode code
-push-link-spec = tie.close (tie.spec (search needs) (search needs) (search needs) (search needs) (search needs) (search needs) (search needs) returns)
+push-link-spec = tie.close (tie.spec
+    (λ c. search needs) (λ c. search needs) (λ c. search needs) (λ c. search needs) (λ c κs. omega arith)
+    (λ c κs. omega arith) (λ c. search needs) returns)

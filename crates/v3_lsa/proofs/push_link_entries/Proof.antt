@@ -30,5 +30,5 @@ returns c = fixed-finish (c .before .loop .inv) (search needs)
 
 pub push-link-entries-spec : {M : Type 1} → statement M
 push-link-entries-spec = tie.close (tie.spec
-    Inv-loop μ-loop loop-holds push-link-requires (search needs) (search needs) (search needs) loop-again same-length
-    returns)
+    Inv-loop μ-loop loop-holds push-link-requires (λ c. search needs) (λ c. search needs) (λ c. search needs) loop-again
+    same-length returns)

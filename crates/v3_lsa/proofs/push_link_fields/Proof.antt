@@ -1,3 +1,4 @@
+use native.Mathlib.Omega.{arith}
 use borrow.Author.Needs.{needs}
 use Rattle.format.specs.Strip.{encode, code}
 use Rattle.format.proofs.Wrote.{then}
@@ -17,5 +18,5 @@ returns c =
 pub push-link-fields-spec : {M : Type 1} → statement M
 unfolding code encode
 push-link-fields-spec = tie.close (tie.spec
-    (search needs) (search needs) (search needs) (search needs) (search needs) (search needs) (search needs)
-    (search needs) (search needs) (search needs) returns)
+    (λ c. search needs) (λ c. search needs) (λ c κs. omega arith) (λ c. search needs) (λ c κs. omega arith)
+    (λ c. search needs) (λ c κs. omega arith) (λ c. search needs) (λ c κs. omega arith) (λ c. search needs) returns)

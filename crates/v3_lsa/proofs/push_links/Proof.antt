@@ -48,5 +48,6 @@ returns c =
 
 pub push-links-spec : {M : Type 1} → statement M
 push-links-spec = tie.close (tie.spec
-    (search needs) (search needs) (search needs) (search needs) (search needs) (search needs) begin-container-requires
-    push-link-entries-requires end-container-requires (search needs) returns)
+    (λ c. search needs) (λ c. search needs) (λ c. search needs) (λ c. search needs) (λ c. search needs)
+    (λ c. search needs) begin-container-requires push-link-entries-requires end-container-requires (λ c. search needs)
+    returns)

@@ -36,4 +36,4 @@ returns-2 c =
     (pushed-decoded _ _ _ (k2 .push-attached-routers .ensures .1) (then (k1 .push-options .ensures) (k2 .push-attached-routers .ensures .0)))
 
 pub push-network-lsa-spec : {M : Type 1} → statement M
-push-network-lsa-spec = tie.close (tie.spec returns push-options-requires push-attached-routers-requires (search needs) returns-2)
+push-network-lsa-spec = tie.close (tie.spec returns push-options-requires push-attached-routers-requires (λ c. search needs) returns-2)

@@ -45,4 +45,4 @@ returns-2 c =
     (pushed-decoded _ _ _ (k .1) (then (then (k1 .push-router-flags .ensures) (k2 .push-options .ensures)) (k .0)))
 
 pub push-router-lsa-spec : {M : Type 1} → statement M
-push-router-lsa-spec = tie.close (tie.spec returns push-router-flags-requires push-options-requires push-links-requires (search needs) returns-2)
+push-router-lsa-spec = tie.close (tie.spec returns push-router-flags-requires push-options-requires push-links-requires (λ c. search needs) returns-2)

@@ -11,4 +11,6 @@ returns c = pushed-decoded _ _ _ refl (c .before .before .push-bytes .ensures)
 
 pub push-tlv-body-spec : {M : Type 1} → statement M
 unfolding encode code
-push-tlv-body-spec = tie.close (tie.spec (search needs) (search needs) (search needs) (search needs) (search needs) (search needs) returns)
+push-tlv-body-spec = tie.close (tie.spec
+    (λ c. search needs) (λ c. search needs) (λ c. search needs) (λ c. search needs) (λ c. search needs)
+    (λ c. search needs) returns)

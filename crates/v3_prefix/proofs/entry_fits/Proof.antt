@@ -13,4 +13,4 @@ returns c =
     rw (fits-short b (getD b p 0) (p + 4) (omega arith))
 
 pub entry-fits-spec : {M : Type 1} → statement M
-entry-fits-spec = tie.close (tie.spec (search needs) returns (search needs) (search needs) (search needs) (λ c. search needs))
+entry-fits-spec = tie.close (tie.spec (λ c. search needs) returns (λ c. search needs) (λ c. search needs) (λ c. search needs) (λ c. search needs))

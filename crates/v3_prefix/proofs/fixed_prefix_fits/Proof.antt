@@ -11,4 +11,4 @@ returns c =
     rw (fits-short b (getD b 4 0) 8 (omega arith))
 
 pub fixed-prefix-fits-spec : {M : Type 1} → statement M
-fixed-prefix-fits-spec = tie.close (tie.spec returns (search needs) (search needs) (λ c. search needs))
+fixed-prefix-fits-spec = tie.close (tie.spec returns (λ c. search needs) (λ c. search needs) (λ c. search needs))

@@ -33,4 +33,4 @@ returns-3 c =
     rw (fits-past b l (c .before .before .before .before .before .before .args .p) n s (omega arith))
 
 pub prefix-fits-spec : {M : Type 1} → statement M
-prefix-fits-spec = tie.close (tie.spec (search needs) (search needs) enum-told returns (search needs) returns-2 returns-3)
+prefix-fits-spec = tie.close (tie.spec (λ c. search needs) (λ c. search needs) enum-told returns (λ c. search needs) returns-2 returns-3)

@@ -48,5 +48,5 @@ returns c =
 
 pub push-prefix-spec : {M : Type 1} → statement M
 push-prefix-spec = tie.close (tie.spec
-    (search needs) (search needs) (search needs) (search needs) (search needs) begin-container-requires
-    push-prefix-fields-requires end-container-requires (search needs) returns)
+    (λ c. search needs) (λ c. search needs) (λ c. search needs) (λ c. search needs) (λ c. search needs)
+    begin-container-requires push-prefix-fields-requires end-container-requires (λ c. search needs) returns)

@@ -87,5 +87,5 @@ returns-2 c =
 
 pub push-prefix-entries-spec : {M : Type 1} → statement M
 push-prefix-entries-spec = tie.close (tie.spec
-    Inv-loop μ-loop loop-holds (search needs) (search needs) (search needs) push-prefix-requires add-pos add-pos-2
-    (search needs) (search needs) loop-again same-length returns same-length-2 returns-2)
+    Inv-loop μ-loop loop-holds (λ c. search needs) (λ c. search needs) (λ c. search needs) push-prefix-requires add-pos
+    add-pos-2 (λ c. search needs) (λ c. search needs) loop-again same-length returns same-length-2 returns-2)

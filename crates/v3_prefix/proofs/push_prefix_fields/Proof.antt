@@ -53,5 +53,5 @@ returns c =
 
 pub push-prefix-fields-spec : {M : Type 1} → statement M
 push-prefix-fields-spec = tie.close (tie.spec
-    push-u8-at-requires (search needs) push-u8-at-requires-2 push-prefix-metric-requires (search needs)
-    push-ipv6-at-requires (search needs) returns)
+    push-u8-at-requires (λ c. search needs) push-u8-at-requires-2 push-prefix-metric-requires (λ c. search needs)
+    push-ipv6-at-requires (λ c. search needs) returns)

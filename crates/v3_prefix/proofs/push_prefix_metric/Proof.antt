@@ -20,4 +20,4 @@ unfolding encode code
 returns-2 c = rw (c .if1 .left) (nothing _ _)
 
 pub push-prefix-metric-spec : {M : Type 1} → statement M
-push-prefix-metric-spec = tie.close (tie.spec (search needs) push-u16-at-requires (search needs) returns returns-2)
+push-prefix-metric-spec = tie.close (tie.spec (λ c. search needs) push-u16-at-requires (λ c. search needs) returns returns-2)

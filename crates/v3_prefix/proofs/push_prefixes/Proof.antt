@@ -51,5 +51,5 @@ returns c =
 
 pub push-prefixes-spec : {M : Type 1} → statement M
 push-prefixes-spec = tie.close (tie.spec
-    (search needs) push-prefix-entries-requires (search needs) (search needs) (search needs) (search needs)
-    begin-container-requires end-container-requires (search needs) returns)
+    (λ c. search needs) push-prefix-entries-requires (λ c. search needs) (λ c. search needs) (λ c. search needs)
+    (λ c. search needs) begin-container-requires end-container-requires (λ c. search needs) returns)

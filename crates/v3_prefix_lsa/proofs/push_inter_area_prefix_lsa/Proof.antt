@@ -90,5 +90,5 @@ returns-2 c =
 
 pub push-inter-area-prefix-lsa-spec : {M : Type 1} → statement M
 push-inter-area-prefix-lsa-spec = tie.close (tie.spec
-    (search needs) (search needs) enum-told returns push-metric24-at-requires push-u8-at-requires push-u8-at-requires-2
-    push-ipv6-at-requires add-t19 (search needs) returns-2)
+    (λ c. search needs) (λ c. search needs) enum-told returns push-metric24-at-requires push-u8-at-requires
+    push-u8-at-requires-2 push-ipv6-at-requires add-t19 (λ c. search needs) returns-2)

@@ -47,5 +47,5 @@ returns-2 c =
 
 pub push-intra-area-prefix-lsa-spec : {M : Type 1} → statement M
 push-intra-area-prefix-lsa-spec = tie.close (tie.spec
-    returns push-wide16-at-requires push-references-requires (search needs) (search needs) push-prefixes-requires
-    (search needs) returns-2)
+    returns push-wide16-at-requires push-references-requires (λ c. search needs) (λ c. search needs)
+    push-prefixes-requires (λ c. search needs) returns-2)

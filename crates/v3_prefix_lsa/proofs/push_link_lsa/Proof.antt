@@ -63,5 +63,5 @@ returns-2 c =
 
 pub push-link-lsa-spec : {M : Type 1} → statement M
 push-link-lsa-spec = tie.close (tie.spec
-    returns push-u8-at-requires push-options-requires push-ipv6-at-requires push-u32-at-requires (search needs)
-    push-prefixes-requires (search needs) returns-2)
+    returns push-u8-at-requires push-options-requires push-ipv6-at-requires push-u32-at-requires (λ c. search needs)
+    push-prefixes-requires (λ c. search needs) returns-2)

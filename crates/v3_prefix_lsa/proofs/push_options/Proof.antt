@@ -8,4 +8,4 @@ returns c = c .before .before .push-u24-at .ensures
 
 pub push-options-spec : {M : Type 1} → statement M
 unfolding code
-push-options-spec = tie.close (tie.spec (search needs) (search needs) returns)
+push-options-spec = tie.close (tie.spec (λ c. search needs) (λ c. search needs) returns)

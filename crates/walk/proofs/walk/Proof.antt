@@ -26,5 +26,5 @@ returns-3 c =
 
 pub walk-spec : {M : Type 1} → statement M
 walk-spec = tie.close (tie.spec
-    enum-told (search needs) (search needs) (search needs) (search needs) (search needs) (search needs) returns
-    (search needs) returns-2 (search needs) returns-3)
+    enum-told (λ c. search needs) (λ c. search needs) (λ c. search needs) (λ c. search needs) (λ c. search needs)
+    (λ c. search needs) returns (λ c. search needs) returns-2 (λ c. search needs) returns-3)

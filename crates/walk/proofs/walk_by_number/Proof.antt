@@ -23,4 +23,6 @@ returns-2 c =
     rw (namedOf, e) (c .before .before .walk .ensures)
 
 pub walk-by-number-spec : {M : Type 1} → statement M
-walk-by-number-spec = tie.close (tie.spec (search needs) (search needs) enum-told (search needs) returns (search needs) (search needs) returns-2)
+walk-by-number-spec = tie.close (tie.spec
+    (λ c. search needs) (λ c. search needs) enum-told (λ c. search needs) returns (λ c. search needs)
+    (λ c. search needs) returns-2)

@@ -42,4 +42,4 @@ returns-5 c =
     rw (k, le-ltb 65535 (length d) (omega arith), le-ltb 4294901760 o (omega arith), le-ltb (length d) (c .before .before .before .before .before .before .args .least) (omega arith))
 
 pub refusal-of-spec : {M : Type 1} → statement M
-refusal-of-spec = tie.close (tie.spec (search needs) returns returns-2 returns-3 returns-4 returns-5)
+refusal-of-spec = tie.close (tie.spec (λ c. search needs) returns returns-2 returns-3 returns-4 returns-5)

@@ -14,4 +14,4 @@ returns-2 c =
     λ o. rw t (c .measure-lsa-header-fields2 .ensures (c .before .before .before .args .header .now) o)
 
 pub measure-header-spec : {M : Type 1} → statement M
-measure-header-spec = tie.close (tie.spec (search needs) (search needs) returns returns-2)
+measure-header-spec = tie.close (tie.spec (λ c. search needs) (λ c. search needs) returns returns-2)

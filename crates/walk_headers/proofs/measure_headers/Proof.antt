@@ -1,4 +1,3 @@
-use borrow.Author.Needs.{needs}
 use Rattle.format.proofs.Lengths.{part-length, length-header-object}
 use Rattle.format.proofs.Sizes.{headers-bound}
 use Rattle.format.proofs.Lists.{fixed-stands}
@@ -83,5 +82,5 @@ returns c =
 
 pub measure-headers-spec : {M : Type 1} → statement M
 measure-headers-spec = tie.close (tie.spec
-    Inv-loop μ-loop loop-holds (search needs) add-total (search needs) (search needs) (search needs)
-    measure-header-requires add-total-2 (search needs) (search needs) loop-again returns)
+    Inv-loop μ-loop loop-holds (λ c. omega arith) add-total (λ c. omega arith) (λ c. omega arith) (λ c. omega arith)
+    measure-header-requires add-total-2 (λ c. omega arith) (λ c. omega arith) loop-again returns)

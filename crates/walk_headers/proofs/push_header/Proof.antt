@@ -51,5 +51,6 @@ returns c =
 
 pub push-header-spec : {M : Type 1} → statement M
 push-header-spec = tie.close (tie.spec
-    (search needs) (search needs) (search needs) begin-container-at-requires (search needs) (search needs)
-    (search needs) push-header-fields-requires end-container-requires (search needs) returns)
+    (λ c. search needs) (λ c. search needs) (λ c. search needs) begin-container-at-requires (λ c. search needs)
+    (λ c. search needs) (λ c. search needs) push-header-fields-requires end-container-requires (λ c. search needs)
+    returns)

@@ -50,6 +50,6 @@ returns-2 c =
 
 pub push-header-fields-spec : {M : Type 1} → statement M
 push-header-fields-spec = tie.close (tie.spec
-    (search needs) (search needs) (search needs) push-lsa-header-fields-requires add-result (search needs)
-    (search needs) (search needs) push-lsa-header-fields-requires-2 add-result-2 (search needs) returns (search needs)
-    returns-2)
+    (λ c. search needs) (λ c. search needs) (λ c. search needs) push-lsa-header-fields-requires add-result
+    (λ c. search needs) (λ c. search needs) (λ c. search needs) push-lsa-header-fields-requires-2 add-result-2
+    (λ c. search needs) returns (λ c. search needs) returns-2)

@@ -28,5 +28,5 @@ returns c = fixed-finish (c .before .loop .inv) (search needs)
 
 pub push-headers-spec : {M : Type 1} → statement M
 push-headers-spec = tie.close (tie.spec
-    Inv-loop μ-loop loop-holds push-header-requires (search needs) (search needs) (search needs) loop-again same-length
-    returns)
+    Inv-loop μ-loop loop-holds push-header-requires (λ c. search needs) (λ c. search needs) (λ c. search needs)
+    loop-again same-length returns)

@@ -80,5 +80,6 @@ returns-3 c =
 
 pub push-lsa-headers-spec : {M : Type 1} → statement M
 push-lsa-headers-spec = tie.close (tie.spec
-    (search needs) (search needs) returns (search needs) measure-headers-requires add-length (search needs) add-length-2
-    (search needs) returns-2 cast-write-headers write-headers-requires (search needs) (search needs) returns-3)
+    (λ c. search needs) (λ c. search needs) returns (λ c. search needs) measure-headers-requires add-length
+    (λ c. search needs) add-length-2 (λ c. search needs) returns-2 cast-write-headers write-headers-requires
+    (λ c. search needs) (λ c. search needs) returns-3)

@@ -61,5 +61,5 @@ returns c =
 
 pub write-headers-spec : {M : Type 1} → statement M
 write-headers-spec = tie.close (tie.spec
-    (search needs) (search needs) (search needs) begin-container-requires push-headers-requires end-container-requires
-    (search needs) push-unparsed-requires (search needs) returns)
+    (λ c. search needs) (λ c. search needs) (λ c. search needs) begin-container-requires push-headers-requires
+    end-container-requires (λ c. search needs) push-unparsed-requires (λ c. search needs) returns)

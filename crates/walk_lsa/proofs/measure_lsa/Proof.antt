@@ -14,4 +14,4 @@ returns-2 c =
     (λ o. rw t (c .measure-lsa2 .ensures .0 o), rw t (c .measure-lsa2 .ensures .1))
 
 pub measure-lsa-spec : {M : Type 1} → statement M
-measure-lsa-spec = tie.close (tie.spec (search needs) (search needs) returns returns-2)
+measure-lsa-spec = tie.close (tie.spec (λ c. search needs) (λ c. search needs) returns returns-2)

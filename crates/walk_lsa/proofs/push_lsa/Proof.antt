@@ -53,5 +53,5 @@ returns-3 c =
 
 pub push-lsa-spec : {M : Type 1} → statement M
 push-lsa-spec = tie.close (tie.spec
-    (search needs) (search needs) returns measure-lsa-requires (search needs) returns-2 cast-push-lsa-fields
-    push-lsa-fields-requires (search needs) returns-3)
+    (λ c. search needs) (λ c. search needs) returns measure-lsa-requires (λ c. search needs) returns-2
+    cast-push-lsa-fields push-lsa-fields-requires (λ c. search needs) returns-3)

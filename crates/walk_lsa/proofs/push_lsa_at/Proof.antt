@@ -7,4 +7,6 @@ returns : tie.Need-returns
 returns c = lent (c .before .before .before .before .before .before .pre .0) (c .before .before .push-lsa-fields .ensures)
 
 pub push-lsa-at-spec : {M : Type 1} → statement M
-push-lsa-at-spec = tie.close (tie.spec (search needs) (search needs) (search needs) (search needs) (search needs) (search needs) returns)
+push-lsa-at-spec = tie.close (tie.spec
+    (λ c. search needs) (λ c. search needs) (λ c. search needs) (λ c. search needs) (λ c. search needs)
+    (λ c. search needs) returns)

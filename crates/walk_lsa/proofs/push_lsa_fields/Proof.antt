@@ -27,4 +27,4 @@ returns-2 c =
     rw t (c .before .before .push-lsa2 .ensures)
 
 pub push-lsa-fields-spec : {M : Type 1} → statement M
-push-lsa-fields-spec = tie.close (tie.spec push-lsa-requires push-lsa-requires-2 (search needs) returns (search needs) returns-2)
+push-lsa-fields-spec = tie.close (tie.spec push-lsa-requires push-lsa-requires-2 (λ c. search needs) returns (λ c. search needs) returns-2)

@@ -128,6 +128,6 @@ returns c =
 
 pub measure-lsas-spec : {M : Type 1} → statement M
 measure-lsas-spec = tie.close (tie.spec
-    Inv-loop μ-loop loop-holds (search needs) (search needs) (search needs) add-q add-total sub-measure-lsa
-    part-measure-lsa-start part-measure-lsa-end measure-lsa-requires add-total-2 (search needs) (search needs)
-    loop-again (search needs) (search needs) returns)
+    Inv-loop μ-loop loop-holds (λ c. search needs) (λ c. search needs) (λ c. search needs) add-q add-total
+    sub-measure-lsa part-measure-lsa-start part-measure-lsa-end measure-lsa-requires add-total-2 (λ c. omega arith)
+    (λ c. omega arith) loop-again (λ c. omega arith) (λ c. omega arith) returns)

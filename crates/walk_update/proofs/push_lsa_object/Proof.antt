@@ -51,5 +51,5 @@ returns c =
 
 pub push-lsa-object-spec : {M : Type 1} → statement M
 push-lsa-object-spec = tie.close (tie.spec
-    (search needs) (search needs) (search needs) begin-container-at-requires (search needs) (search needs)
-    (search needs) push-lsa-at-requires end-container-requires (search needs) returns)
+    (λ c. search needs) (λ c. search needs) (λ c. search needs) begin-container-at-requires (λ c. search needs)
+    (λ c. search needs) (λ c. search needs) push-lsa-at-requires end-container-requires (λ c. search needs) returns)

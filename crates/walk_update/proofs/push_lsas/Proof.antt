@@ -67,5 +67,5 @@ returns-2 c =
 
 pub push-lsas-spec : {M : Type 1} → statement M
 push-lsas-spec = tie.close (tie.spec
-    Inv-loop μ-loop loop-holds (search needs) (search needs) (search needs) push-lsa-object-requires add-pos
-    (search needs) (search needs) loop-again same-length returns same-length-2 returns-2)
+    Inv-loop μ-loop loop-holds (λ c. search needs) (λ c. search needs) (λ c. search needs) push-lsa-object-requires
+    add-pos (λ c. search needs) (λ c. search needs) loop-again same-length returns same-length-2 returns-2)

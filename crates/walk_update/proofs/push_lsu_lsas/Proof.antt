@@ -78,5 +78,5 @@ returns-3 c =
 
 pub push-lsu-lsas-spec : {M : Type 1} → statement M
 push-lsu-lsas-spec = tie.close (tie.spec
-    (search needs) (search needs) returns measure-lsas-requires add-length (search needs) add-length-2 (search needs)
-    returns-2 cast-write-lsas write-lsas-requires (search needs) (search needs) returns-3)
+    (λ c. search needs) (λ c. search needs) returns measure-lsas-requires add-length (λ c. search needs) add-length-2
+    (λ c. search needs) returns-2 cast-write-lsas write-lsas-requires (λ c. search needs) (λ c. search needs) returns-3)

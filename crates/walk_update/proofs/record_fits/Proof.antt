@@ -41,4 +41,6 @@ returns-4 c =
     rw (le-leb (p + 20) (length d) (omega arith), le-leb 20 (be16At d (p + 18)) (omega arith), le-leb (p + be16At d (p + 18)) (length d) (omega arith), n)
 
 pub record-fits-spec : {M : Type 1} → statement M
-record-fits-spec = tie.close (tie.spec (search needs) returns (search needs) (search needs) (search needs) returns-2 returns-3 returns-4)
+record-fits-spec = tie.close (tie.spec
+    (λ c. search needs) returns (λ c. search needs) (λ c. search needs) (λ c. search needs) returns-2 returns-3
+    returns-4)

@@ -53,5 +53,5 @@ returns c =
 
 pub write-lsas-spec : {M : Type 1} → statement M
 write-lsas-spec = tie.close (tie.spec
-    (search needs) (search needs) (search needs) begin-container-requires push-lsas-requires end-container-requires
-    (search needs) push-unparsed-requires (search needs) returns)
+    (λ c. search needs) (λ c. search needs) (λ c. search needs) begin-container-requires push-lsas-requires
+    end-container-requires (λ c. search needs) push-unparsed-requires (λ c. search needs) returns)

@@ -33,4 +33,4 @@ returns-4 c =
     rw (k, le-ltb (length (s .bytes .now)) 20 (omega arith), ne-eqb (s .version) 2 (c .before .if3 .left), c .v3 .ensures)
 
 pub read-spec : {M : Type 1} → statement M
-read-spec = tie.close (tie.spec (search needs) returns returns-2 (search needs) (search needs) returns-3 returns-4)
+read-spec = tie.close (tie.spec (λ c. search needs) returns returns-2 (λ c. search needs) (λ c. search needs) returns-3 returns-4)

@@ -6,4 +6,4 @@ returns : tie.Need-returns
 returns c = rw (c .before .read-be-u16 .ensures) at (c .with-type .ensures)
 
 pub v3-spec : {M : Type 1} → statement M
-v3-spec = tie.close (tie.spec (search needs) (search needs) returns)
+v3-spec = tie.close (tie.spec (λ c. search needs) (λ c. search needs) returns)

@@ -9,4 +9,6 @@ returns c =
     rw (c .read-be-u163 .ensures, c .before .read-be-u162 .ensures, k4 .read-be-u322 .ensures, k4 .before .read-ipv4-addr .ensures, k2 .read-be-u32 .ensures, k2 .before .read-be-u16 .ensures)
 
 pub with-type-spec : {M : Type 1} → statement M
-with-type-spec = tie.close (tie.spec (search needs) (search needs) (search needs) (search needs) (search needs) (search needs) returns)
+with-type-spec = tie.close (tie.spec
+    (λ c. search needs) (λ c. search needs) (λ c. search needs) (λ c. search needs) (λ c. search needs)
+    (λ c. search needs) returns)

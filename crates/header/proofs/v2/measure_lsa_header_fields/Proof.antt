@@ -14,4 +14,4 @@ unfolding headerEntries2 encode code
 returns-2 c = λ o. rw (sym (c .before .is-opaque .ensures) ∙ c .if1 .left)
 
 pub measure-lsa-header-fields-spec : {M : Type 1} → statement M
-measure-lsa-header-fields-spec = tie.close (tie.spec (search needs) (search needs) returns returns-2)
+measure-lsa-header-fields-spec = tie.close (tie.spec (λ c. search needs) (λ c. search needs) returns returns-2)

@@ -35,5 +35,5 @@ returns-2 c =
 pub push-lsa-header-fields-spec : {M : Type 1} → statement M
 unfolding headerEntries2 encode code
 push-lsa-header-fields-spec = tie.close (tie.spec
-    (search needs) (search needs) (search needs) (search needs) push-opaque-fields-requires (search needs) returns
-    (search needs) returns-2)
+    (λ c κs. omega arith) (λ c κs. omega arith) (λ c. search needs) (λ c. search needs) push-opaque-fields-requires
+    (λ c. search needs) returns (λ c. search needs) returns-2)

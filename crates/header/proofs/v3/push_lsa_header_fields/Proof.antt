@@ -1,3 +1,4 @@
+use native.Mathlib.Omega.{arith}
 use Rattle.format.specs.Header.{headerEntries3}
 use Rattle.format.specs.Strip.{encode, code}
 use Rattle.format.proofs.Wrote.{then}
@@ -14,4 +15,4 @@ returns c =
 
 pub push-lsa-header-fields-spec : {M : Type 1} → statement M
 unfolding headerEntries3 encode code
-push-lsa-header-fields-spec = tie.close (tie.spec (search needs) (search needs) (search needs) returns)
+push-lsa-header-fields-spec = tie.close (tie.spec (λ c κs. omega arith) (λ c κs. omega arith) (λ c. search needs) returns)

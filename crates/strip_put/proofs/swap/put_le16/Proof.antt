@@ -7,4 +7,4 @@ returns : tie.Need-returns
 returns c = then (c .before .before .before .before .before .before .put-u8 .ensures) (c .before .before .put-u82 .ensures)
 
 pub put-le16-spec : {M : Type 1} → statement M
-put-le16-spec = tie.close (tie.spec (search needs) (search needs) (search needs) (search needs) (search needs) returns)
+put-le16-spec = tie.close (tie.spec (λ c. search needs) (λ c. search needs) (λ c. search needs) (λ c. search needs) (λ c. search needs) returns)

@@ -7,4 +7,4 @@ returns : tie.Need-returns
 returns c = then (c .before .before .before .before .before .before .put-le16 .ensures) (c .before .before .put-le162 .ensures)
 
 pub put-le32-spec : {M : Type 1} → statement M
-put-le32-spec = tie.close (tie.spec (search needs) (search needs) (search needs) (search needs) (search needs) returns)
+put-le32-spec = tie.close (tie.spec (λ c. search needs) (λ c. search needs) (λ c. search needs) (λ c. search needs) (λ c. search needs) returns)

@@ -9,4 +9,4 @@ unfolding swap16
 returns c = refl
 
 pub swap-u16-spec : {M : Type 1} → statement M
-swap-u16-spec = tie.close (tie.spec (search needs) (search needs) returns)
+swap-u16-spec = tie.close (tie.spec (λ c. search needs) (λ c. search needs) returns)

@@ -9,5 +9,5 @@ returns c = rw (← (c .before .swap-u16 .ensures), ← (c .swap-u162 .ensures))
 
 pub swap-u32-spec : {M : Type 1} → statement M
 swap-u32-spec = tie.close (tie.spec
-    (search needs) (search needs) (search needs) (search needs) (search needs) (search needs) (search needs)
-    (search needs) returns)
+    (λ c. search needs) (λ c. search needs) (λ c. search needs) (λ c. search needs) (λ c. search needs)
+    (λ c. search needs) (λ c. search needs) (λ c. search needs) returns)

@@ -9,5 +9,5 @@ returns c = rw (← (c .before .swap-u32 .ensures), ← (c .swap-u322 .ensures))
 
 pub swap-u64-spec : {M : Type 1} → statement M
 swap-u64-spec = tie.close (tie.spec
-    (search needs) (search needs) (search needs) (search needs) (search needs) (search needs) (search needs)
-    (search needs) returns)
+    (λ c. search needs) (λ c. search needs) (λ c. search needs) (λ c. search needs) (λ c. search needs)
+    (λ c. search needs) (λ c. search needs) (λ c. search needs) returns)

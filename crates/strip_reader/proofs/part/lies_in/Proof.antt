@@ -25,4 +25,4 @@ returns-3 c =
     rw (le-ltb (a .start) (a .offset) (omega arith), le-ltb (a .end) (a .start) (omega arith)) (without-sum (a .n) (a .offset) (a .end) (omega arith))
 
 pub lies-in-spec : {M : Type 1} → statement M
-lies-in-spec = tie.close (tie.spec returns returns-2 (search needs) returns-3)
+lies-in-spec = tie.close (tie.spec returns returns-2 (λ c. search needs) returns-3)

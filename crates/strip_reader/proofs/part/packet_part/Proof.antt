@@ -42,4 +42,5 @@ returns-2 c =
     (rw t, rw (t, add-zero))
 
 pub packet-part-spec : {M : Type 1} → statement M
-packet-part-spec = tie.close (tie.spec (search needs) sub-a sub-e sub-result part-result-start part-result-end (search needs) returns returns-2)
+packet-part-spec = tie.close (tie.spec
+    (λ c. search needs) sub-a sub-e sub-result part-result-start part-result-end (λ c. search needs) returns returns-2)

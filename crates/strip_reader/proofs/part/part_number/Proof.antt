@@ -13,4 +13,4 @@ unfolding partNumber
 returns-2 c = rw (sym (c .before .lies-in .ensures) ∙ c .if1 .left)
 
 pub part-number-spec : {M : Type 1} → statement M
-part-number-spec = tie.close (tie.spec (search needs) returns returns-2)
+part-number-spec = tie.close (tie.spec (λ c. search needs) returns returns-2)

@@ -39,5 +39,5 @@ returns-8 c =
 
 pub measure-body-spec : {M : Type 1} → statement M
 measure-body-spec = tie.close (tie.spec
-    (search needs) (search needs) (search needs) (search needs) (search needs) returns returns-2 returns-3 returns-4
-    returns-5 returns-6 returns-7 returns-8)
+    (λ c. search needs) (λ c. search needs) (λ c. search needs) (λ c. search needs) (λ c. search needs) returns
+    returns-2 returns-3 returns-4 returns-5 returns-6 returns-7 returns-8)

@@ -82,6 +82,6 @@ returns-2 c =
 
 pub measure-lsa-spec : {M : Type 1} → statement M
 measure-lsa-spec = tie.close (tie.spec
-    (search needs) (search needs) (search needs) (search needs) (search needs) (search needs) (search needs)
-    (search needs) (search needs) add-t17 add-t18 (search needs) (search needs) (search needs) add-t20 returns
-    returns-2)
+    (λ c. search needs) (λ c. search needs) (λ c. search needs) (λ c. search needs) (λ c. search needs)
+    (λ c. search needs) (λ c. search needs) (λ c. search needs) (λ c. search needs) add-t17 add-t18 (λ c. search needs)
+    (λ c. search needs) (λ c. search needs) add-t20 returns returns-2)

@@ -14,4 +14,4 @@ unfolding opaqueLsa encode code
 returns-2 c = λ o. rw (sym (c .before .opaque-has-tlvs .ensures) ∙ c .if1 .left)
 
 pub measure-opaque-lsa-spec : {M : Type 1} → statement M
-measure-opaque-lsa-spec = tie.close (tie.spec (search needs) returns returns-2)
+measure-opaque-lsa-spec = tie.close (tie.spec (λ c. search needs) returns returns-2)

@@ -23,5 +23,4 @@ returns c =
     omega arith
 
 pub measure-link-spec : {M : Type 1} → statement M
-measure-link-spec = tie.close (tie.spec
-    (search needs) (search needs) (search needs) (search needs) (search needs) returns)
+measure-link-spec = tie.close (tie.spec (λ c. search needs) (λ c. search needs) (λ c. search needs) (λ c. search needs) (λ c. search needs) returns)

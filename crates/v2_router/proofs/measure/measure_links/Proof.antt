@@ -86,5 +86,5 @@ returns-2 c =
 
 pub measure-links-spec : {M : Type 1} → statement M
 measure-links-spec = tie.close (tie.spec
-    Inv-loop μ-loop loop-holds (search needs) (search needs) enum-told measure-link-requires add-total add-pos
-    (search needs) (search needs) loop-again returns returns-2)
+    Inv-loop μ-loop loop-holds (λ c. search needs) (λ c. search needs) enum-told measure-link-requires add-total add-pos
+    (λ c. search needs) (λ c. search needs) loop-again returns returns-2)

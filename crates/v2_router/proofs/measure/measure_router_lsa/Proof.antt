@@ -27,4 +27,4 @@ returns-2 c =
     (rw count at (c .before .measure-links .ensures .1 .0)))
 
 pub measure-router-lsa-spec : {M : Type 1} → statement M
-measure-router-lsa-spec = tie.close (tie.spec returns (search needs) (search needs) (search needs) returns-2)
+measure-router-lsa-spec = tie.close (tie.spec returns (λ c. search needs) (λ c. search needs) (λ c. search needs) returns-2)

@@ -56,4 +56,5 @@ returns-3 c =
 
 pub measure-external-lsa-spec : {M : Type 1} → statement M
 measure-external-lsa-spec = tie.close (tie.spec
-    (search needs) (search needs) enum-told returns external-end-requires returns-2 (search needs) add-t7 returns-3)
+    (λ c. search needs) (λ c. search needs) enum-told returns external-end-requires returns-2 (λ c. search needs) add-t7
+    returns-3)

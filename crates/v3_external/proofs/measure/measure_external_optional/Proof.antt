@@ -28,5 +28,5 @@ returns c = λ o n.
 
 pub measure-external-optional-spec : {M : Type 1} → statement M
 measure-external-optional-spec = tie.close (tie.spec
-    (search needs) (search needs) (search needs) (search needs) (search needs) (search needs) add-result add-result-2
-    returns)
+    (λ c. search needs) (λ c. search needs) (λ c. search needs) (λ c. search needs) (λ c. search needs)
+    (λ c. search needs) add-result add-result-2 returns)

@@ -72,5 +72,6 @@ returns-2 c =
 
 pub measure-lsa-spec : {M : Type 1} → statement M
 measure-lsa-spec = tie.close (tie.spec
-    (search needs) (search needs) (search needs) (search needs) (search needs) (search needs) (search needs)
-    (search needs) add-t13 add-t14 (search needs) (search needs) (search needs) add-t17 returns returns-2)
+    (λ c. search needs) (λ c. search needs) (λ c. search needs) (λ c. search needs) (λ c. search needs)
+    (λ c. search needs) (λ c. search needs) (λ c. search needs) add-t13 add-t14 (λ c. search needs) (λ c. search needs)
+    (λ c. search needs) add-t17 returns returns-2)

@@ -24,4 +24,4 @@ returns-2 c =
     rw (le-ltb (length (c .before .before .before .before .args .body .now)) 4 (omega arith)) (same-decoded (omega arith) (k .1))
 
 pub measure-network-lsa-spec : {M : Type 1} → statement M
-measure-network-lsa-spec = tie.close (tie.spec returns (search needs) add-t3 returns-2)
+measure-network-lsa-spec = tie.close (tie.spec returns (λ c. search needs) add-t3 returns-2)

@@ -24,4 +24,5 @@ returns-2 c =
 
 pub measure-router-lsa-spec : {M : Type 1} → statement M
 measure-router-lsa-spec = tie.close (tie.spec
-    returns (search needs) (search needs) (search needs) (search needs) (search needs) returns-2)
+    returns (λ c. search needs) (λ c. search needs) (λ c. search needs) (λ c. search needs) (λ c. search needs)
+    returns-2)

@@ -24,4 +24,4 @@ returns-2 c =
     rw (le-ltb (length b) n (omega arith)) (same-decoded (omega arith) refl)
 
 pub measure-tlv-lsa-spec : {M : Type 1} → statement M
-measure-tlv-lsa-spec = tie.close (tie.spec returns (search needs) returns-2)
+measure-tlv-lsa-spec = tie.close (tie.spec returns (λ c. search needs) returns-2)

@@ -21,4 +21,4 @@ returns c =
     )
 
 pub measure-prefixes-spec : {M : Type 1} → statement M
-measure-prefixes-spec = tie.close (tie.spec (search needs) returns)
+measure-prefixes-spec = tie.close (tie.spec (λ c. search needs) returns)

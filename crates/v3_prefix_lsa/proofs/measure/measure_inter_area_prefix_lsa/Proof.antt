@@ -33,5 +33,4 @@ unfolding encode code
 returns-2 c = λ o. rw (inter-area-prefix-decoded (c .before .before .before .before .before .args .body .now) o _ (fits c))
 
 pub measure-inter-area-prefix-lsa-spec : {M : Type 1} → statement M
-measure-inter-area-prefix-lsa-spec = tie.close (tie.spec
-    (search needs) (search needs) enum-told returns add-t4 returns-2)
+measure-inter-area-prefix-lsa-spec = tie.close (tie.spec (λ c. search needs) (λ c. search needs) enum-told returns add-t4 returns-2)

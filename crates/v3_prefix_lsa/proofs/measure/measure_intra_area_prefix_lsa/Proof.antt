@@ -28,5 +28,4 @@ returns-2 c =
     rw (le-ltb (length (c .before .before .before .before .before .args .body .now)) 12 (omega arith)) (same-decoded (omega arith) (rw (c .before .before .read-be-u16 .ensures) at (k .1)))
 
 pub measure-intra-area-prefix-lsa-spec : {M : Type 1} → statement M
-measure-intra-area-prefix-lsa-spec = tie.close (tie.spec
-    returns (search needs) (search needs) (search needs) add-t3 returns-2)
+measure-intra-area-prefix-lsa-spec = tie.close (tie.spec returns (λ c. search needs) (λ c. search needs) (λ c. search needs) add-t3 returns-2)

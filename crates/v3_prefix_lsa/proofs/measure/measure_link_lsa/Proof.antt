@@ -28,4 +28,4 @@ returns-2 c =
     rw (le-ltb (length (c .before .before .before .before .before .args .body .now)) 24 (omega arith)) (same-decoded (omega arith) (rw (c .before .before .read-be-u32 .ensures) at (k .1)))
 
 pub measure-link-lsa-spec : {M : Type 1} → statement M
-measure-link-lsa-spec = tie.close (tie.spec returns (search needs) (search needs) add-t3 returns-2)
+measure-link-lsa-spec = tie.close (tie.spec returns (λ c. search needs) (λ c. search needs) add-t3 returns-2)
