@@ -7,8 +7,8 @@ ghost use Rattle.format.specs.Header.{headerSize, maxAge, instanceEntries, head
 ghost use Rattle.format.specs.Strip.{encode};
 ghost use Rattle.format.specs.Wrote.{Wrote};
 ghost use Rattle.header.specs.Answers.{headerOf, readingOf, newnessOf, meaning};
-use strip_push::U16_LENGTH;
-use strip_push::U32_LENGTH;
+use strip_ids::kind::U16_LENGTH;
+use strip_ids::kind::U32_LENGTH;
 use strip_push::push_u16_at;
 use strip_push::push_u32_at;
 use util::read_be_u16;

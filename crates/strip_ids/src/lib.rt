@@ -1,6 +1,5 @@
-// The numbers of the strip's format, as docs/STRIP.md lists them: the kinds of entries, a module for each version's field
-// ids, and here the ids that mean the same in both. In the definitions they stand in crate
-// `format`.
+// The numbers of the strip's format, as docs/STRIP.md lists them: the kinds of entries with their lengths, a module for
+// each version's field ids, and here the ids that mean the same in both. In the definitions they stand in crate `format`.
 pub mod kind;
 pub mod v2;
 pub mod v3;

@@ -26,26 +26,6 @@ use util::read_be_u32;
 use util::read_be_u64;
 use util::read_ipv4_addr;
 
-// The lengths of entries in bytes, by kind (document 01): the kind, then a body of id, start, end and value.
-pub const OPEN_LENGTH: usize = 10;
-
-pub const CLOSE_LENGTH: usize = 1;
-
-pub const U8_LENGTH: usize = 11;
-
-pub const U16_LENGTH: usize = 12;
-
-pub const U32_LENGTH: usize = 14;
-
-pub const IPV4_LENGTH: usize = 14;
-
-pub const IPV6_LENGTH: usize = 26;
-
-pub const BYTES_LENGTH: usize = 10;
-
-// A container without what is inside it.
-pub const CONTAINER_LENGTH: usize = OPEN_LENGTH + CLOSE_LENGTH;
-
 pub fn begin_container(strip: &mut [u8], at: usize, id: u8, start: u32, end: u32) -> usize
     requires { ⌜ at + 10 ≤ length (now strip) ⌝ }
     ensures { λ r. ⌜ Wrote (now (strip .entry)) at (code (Entry.opens id start end)) (now (strip .exit)) r ⌝ }

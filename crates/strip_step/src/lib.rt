@@ -8,13 +8,21 @@ ghost use Rattle.format.specs.Strip.{bodyLength, entryAt, stepAt};
 ghost use Rattle.util.specs.Answers.{lengthOf};
 ghost use Rattle.strip_step.specs.Answers.{entryOf, stepOf, bodySize};
 use strip_ids::kind::BYTES;
+use strip_ids::kind::BYTES_BODY;
 use strip_ids::kind::CLOSE;
+use strip_ids::kind::CLOSE_BODY;
 use strip_ids::kind::IPV4;
+use strip_ids::kind::IPV4_BODY;
 use strip_ids::kind::IPV6;
+use strip_ids::kind::IPV6_BODY;
 use strip_ids::kind::OPEN;
+use strip_ids::kind::OPEN_BODY;
 use strip_ids::kind::U8;
+use strip_ids::kind::U8_BODY;
 use strip_ids::kind::U16;
+use strip_ids::kind::U16_BODY;
 use strip_ids::kind::U32;
+use strip_ids::kind::U32_BODY;
 use util::Length;
 use util::read_be_u16;
 use util::read_be_u32;
@@ -85,14 +93,14 @@ fn body_length(kind: u8) -> Length
     ensures { λ r. ⌜ r ≡ lengthOf (bodyLength kind) ⌝ }
 {
     match kind {
-        OPEN => Length::Bytes(9),
-        CLOSE => Length::Bytes(0),
-        U8 => Length::Bytes(10),
-        U16 => Length::Bytes(11),
-        U32 => Length::Bytes(13),
-        IPV4 => Length::Bytes(13),
-        IPV6 => Length::Bytes(25),
-        BYTES => Length::Bytes(9),
+        OPEN => Length::Bytes(OPEN_BODY),
+        CLOSE => Length::Bytes(CLOSE_BODY),
+        U8 => Length::Bytes(U8_BODY),
+        U16 => Length::Bytes(U16_BODY),
+        U32 => Length::Bytes(U32_BODY),
+        IPV4 => Length::Bytes(IPV4_BODY),
+        IPV6 => Length::Bytes(IPV6_BODY),
+        BYTES => Length::Bytes(BYTES_BODY),
         _ => Length::Nothing,
     }
 }

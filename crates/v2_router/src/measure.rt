@@ -13,11 +13,11 @@ use crate::link_fits;
 use body::Measured;
 use body::MeasuredList;
 use body::ROUTER_FLAGS_LENGTH;
-use strip_push::CONTAINER_LENGTH;
-use strip_push::IPV4_LENGTH;
-use strip_push::U8_LENGTH;
-use strip_push::U16_LENGTH;
-use strip_push::U32_LENGTH;
+use strip_ids::kind::CONTAINER_LENGTH;
+use strip_ids::kind::IPV4_LENGTH;
+use strip_ids::kind::U8_LENGTH;
+use strip_ids::kind::U16_LENGTH;
+use strip_ids::kind::U32_LENGTH;
 use util::Length;
 use util::read_be_u16;
 

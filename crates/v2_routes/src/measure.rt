@@ -5,10 +5,10 @@ ghost use lib.ListN.{length};
 ghost use Rattle.format.specs.V2.{externalLsa2, summaryLsa};
 ghost use Rattle.body.specs.Answers.{measuredOf};
 use body::Measured;
-use strip_push::CONTAINER_LENGTH;
-use strip_push::IPV4_LENGTH;
-use strip_push::U8_LENGTH;
-use strip_push::U32_LENGTH;
+use strip_ids::kind::CONTAINER_LENGTH;
+use strip_ids::kind::IPV4_LENGTH;
+use strip_ids::kind::U8_LENGTH;
+use strip_ids::kind::U32_LENGTH;
 use v2_router::measure::measure_tos_metrics;
 
 // What a Summary-LSA and an external LSA have before their TOS metrics, and a TOS metric of each.

@@ -10,10 +10,10 @@ ghost use mathlib.Core.List.{flatMap};
 use crate::entry_fits;
 use crate::present;
 use body::MeasuredList;
-use strip_push::CONTAINER_LENGTH;
-use strip_push::IPV6_LENGTH;
-use strip_push::U8_LENGTH;
-use strip_push::U16_LENGTH;
+use strip_ids::kind::CONTAINER_LENGTH;
+use strip_ids::kind::IPV6_LENGTH;
+use strip_ids::kind::U8_LENGTH;
+use strip_ids::kind::U16_LENGTH;
 use util::Length;
 
 // A prefix in a list, without the metric that it may have.

@@ -17,7 +17,7 @@ use header::v2;
 use header::v3;
 use strip_ids::HEADER;
 use strip_ids::OUTER;
-use strip_push::CONTAINER_LENGTH;
+use strip_ids::kind::CONTAINER_LENGTH;
 use strip_push::begin_container;
 use strip_push::begin_container_at;
 use strip_push::end_container;

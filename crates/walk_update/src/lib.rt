@@ -15,7 +15,7 @@ use body::push_unparsed;
 use header::LsaHeader;
 use strip_ids::LSA;
 use strip_ids::OUTER;
-use strip_push::CONTAINER_LENGTH;
+use strip_ids::kind::CONTAINER_LENGTH;
 use strip_push::begin_container;
 use strip_push::begin_container_at;
 use strip_push::end_container;
