@@ -11,23 +11,24 @@ use lib.Seq.{sets, drop-append-seam, length-sets}
 use lib.Dec.{eqb, ltb}
 use borrow.Author.Tests.{eqb-true, eqb-false}
 use Rattle.format.specs.Strip.{Entry, encode}
-use Rattle.format.specs.Walks.{Outcome, Answer, answerOf, stripOf, unless, refusal, packed, headersOf, updateOf, lsaOf, outer, headerObject, lsaObject, headers, lsas, lsaEntries}
+use Rattle.format.specs.Walks.{Outcome, Answer, answerOf, stripOf, unless, refusal, headersOf, updateOf, lsaOf, outer, headerObject, lsaObject, headers, lsas, lsaEntries}
 use Rattle.format.specs.Walks.Outcome.{refused, accepted}
+use Rattle.format.specs.Packed.{word, packed}
 use Rattle.format.specs.Refusals.{Refusals}
-use Rattle.format.specs.Host.{lengthIn, numberIn, Host, HeadersStrip, UpdateStrip, LsaStrip}
+use Rattle.format.specs.Host.{resultIn, numberIn, Host, HeadersStrip, UpdateStrip, LsaStrip}
 use Rattle.format.proofs.Refusals.{refusals, refused-leaves, Taken, taken}
 use Rattle.format.proofs.Wrote.{sets-front}
 use Rattle.format.proofs.Sizes.{headers-size, update-size, lsa-size}
 use Rattle.format.proofs.Walks.{headers-show, update-shows, one-shows}
 
--- Packing loses nothing: the length and the number come back, and the other bits are zero.
-record Unpacked (a : Answer) (r : ℕ) : Type 0 where
-  size : lengthIn r ≡ a .size
-  number : numberIn r ≡ a .number
-  others : r / 1099511627776 ≡ 0
+-- Packing loses nothing: the result and the number come back, and the other bits are zero.
+pub record Unpacked (n x r : ℕ) : Type 0 where
+  pub result : resultIn r ≡ x
+  pub number : numberIn r ≡ n
+  pub others : r / 1099511627776 ≡ 0
 
-unpacked : (a : Answer) → a .size < 4294967296 → a .number ≤ 5 → Unpacked a (packed a)
-unpacked a h k = record { size = omega arith; number = omega arith; others = omega arith }
+pub unpacked : (n x : ℕ) → x < 4294967296 → n < 256 → Unpacked n x (word n x)
+unpacked n x h k = record { result = omega arith; number = omega arith; others = omega arith }
 
 -- What is written to a buffer's front leaves the bytes past it, and no call changes the buffer's length.
 past-front : (bs l : List ℕ) → length bs ≤ length l → drop (length bs) (sets l 0 bs) ≡ drop (length bs) l
@@ -72,16 +73,16 @@ module _ (v : ℕ) (d : List ℕ) (o least : ℕ) (es : List Entry) (records tai
       → Host v d o least (length (encode es)) Shown before after (packed a)
   host h Shown shown =
       let t = refusals v d o least es records tail (length before) in
-      let u = unpacked a (size-fits h) (t .numbers .no-other) in
+      let u = unpacked (a .number) (a .size) (size-fits h) (omega (arith, t .numbers .no-other)) in
       let k : numberIn (packed a) ≡ 0 → Taken (refusal v d o least) es records tail before = λ e. taken (refusal v d o least) es records tail before (sym (u .number) ∙ e) in
       record {
         numbers = rw (u .number) (t .numbers);
-        length-of = λ e. u .size ∙ t .length-of (rw (u .number) at e);
-        no-length = λ e f. u .size ∙ t .no-length (rw (u .number) at e) (rw (u .number) at f);
+        length-of = λ e. u .result ∙ t .length-of (rw (u .number) at e);
+        no-length = λ e f. u .result ∙ t .no-length (rw (u .number) at e) (rw (u .number) at f);
         other-bits = u .others;
-        strip = λ e. rw (u .size) (shown (sym (u .number) ∙ e));
+        strip = λ e. rw (u .result) (shown (sym (u .number) ∙ e));
         past = λ e.
-            let q : lengthIn (packed a) ≡ length (encode es) = u .size ∙ ap (λ (x : Answer). x .size) (k e .answered) in
+            let q : resultIn (packed a) ≡ length (encode es) = u .result ∙ ap (λ (x : Answer). x .size) (k e .answered) in
             ap (λ (n : ℕ). drop n after) q ∙ (ap (drop (length (encode es))) (k e .written) ∙ (past-front (encode es) before (k e .fits) ∙ ap (λ (n : ℕ). drop n before) (sym q)));
         left = λ e. refused-leaves (unless (refusal v d o least) (accepted es records tail)) before (λ z. e (u .number ∙ z)) .0;
         as-long = strip-kept (unless (refusal v d o least) (accepted es records tail)) before;

@@ -32,6 +32,7 @@ pub mod NestedLsa
 pub mod Shown
 pub mod Walks
 pub mod Host
+pub mod Comparisons
 pub mod Refusals
 pub mod Steps
 pub mod LaidWalks

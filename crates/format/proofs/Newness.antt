@@ -9,9 +9,9 @@ use mathlib.Core.List.{List, [], _∷_}
 use lib.ListN.{length}
 use lib.Dec.{ltb, eqb}
 use borrow.Author.Tests.{ltb-true, le-ltb}
-use Rattle.format.specs.Bytes.{be16At}
+use Rattle.format.specs.Bytes.{be16At, be32At}
 use Rattle.format.specs.Header.{Header, Newness, newness, larger, aged, younger, signedRank, maxAge, maxAgeDiff}
-use Rattle.format.specs.Header.{Reading, readHeader, newnessAt, newnessRead, isKnown, headerAt}
+use Rattle.format.specs.Header.{Reading, readHeader, newnessAt, newnessRead, isKnown, header2, header3, headerAt}
 use Rattle.format.specs.Refusals.{readNumber, newnessNumber, ReadRefusals, NewnessRefusals}
 use Rattle.format.specs.Header.Newness.{first, second, same, refused}
 use Rattle.format.specs.Header.Reading.{header}
@@ -136,13 +136,20 @@ header-number x y = go (ltb 3600 (x .age)) (ltb 3600 (y .age)) _
     go false true n e = refl
     go false false n e = e
 
--- The age is the first two bytes, whatever the version.
-age-at : (v : ℕ) (b : List ℕ) → headerAt v b .age ≡ be16At b 0
-age-at v b = go (eqb v 2) _ _ refl refl
-  where
-    go : (s : Bool) (g h : Header) → g .age ≡ be16At b 0 → h .age ≡ be16At b 0 → cond s g h .age ≡ be16At b 0
-    go true g h e f = e
-    go false g h e f = f
+-- What both versions' headers have at the same place: the age is the first two bytes, the sequence number the four at 12.
+module _ (v : ℕ) (b : List ℕ) where
+  in-both : (f : Header → ℕ) {n : ℕ} → f (header2 b) ≡ n → f (header3 b) ≡ n → f (headerAt v b) ≡ n
+  in-both f e g = go (eqb v 2) e g
+    where
+      go : {n : ℕ} (s : Bool) → f (header2 b) ≡ n → f (header3 b) ≡ n → f (cond s (header2 b) (header3 b)) ≡ n
+      go true e g = e
+      go false e g = g
+
+  pub age-at : headerAt v b .age ≡ be16At b 0
+  age-at = in-both (λ (h : Header). h .age) refl refl
+
+  pub sequence-at : headerAt v b .sequenceNumber ≡ be32At b 12
+  sequence-at = in-both (λ (h : Header). h .sequenceNumber) refl refl
 
 number-at : (v : ℕ) (x y : List ℕ) → newnessNumber (newnessAt v x y)
     ≡ cond (isKnown v) (cond (cond (ltb (length x) 20) true (ltb (length y) 20)) 4 (cond (cond (ltb 3600 (be16At x 0)) true (ltb 3600 (be16At y 0))) 11 0)) 1
@@ -188,6 +195,28 @@ newness-refusals v x y =
       eleven = (λ h. absurd (omega arith), λ p. absurd (m (p .3)));
       zero = (λ h. (k, λ z. l (inl z), λ z. l (inr z), λ z. m (inl z), λ z. m (inr z)), λ p. refl);
     }
+
+-- The number fits in the 8 bits that it has in a host's answer.
+pub newness-number : (v : ℕ) (x y : List ℕ) → newnessNumber (newnessAt v x y) ≤ 11
+newness-number v x y = rw (number-at v x y) (go (isKnown v) (cond (ltb (length x) 20) true (ltb (length y) 20)) (cond (ltb 3600 (be16At x 0)) true (ltb 3600 (be16At y 0))))
+  where
+    go : (s t a : Bool) → cond s (cond t 4 (cond a 11 0)) 1 ≤ 11
+    go false t a = omega arith
+    go true true a = omega arith
+    go true false true = omega arith
+    go true false false = omega arith
+
+-- Two LSAs that are read have the newness of their headers.
+pub newness-read : (v : ℕ) (x y : List ℕ) → (v ≡ 2) ⊎ (v ≡ 3) → (length x < 20 → ⊥) → (length y < 20 → ⊥) → newnessAt v x y ≡ newness (headerAt v x) (headerAt v y)
+unfolding newnessAt readHeader
+newness-read v x y k p q = go (version v) (less (length x) 20) (less (length y) 20) (headerAt v x) (headerAt v y)
+  where
+    go : {s t u : Bool} → Decided ((v ≡ 2) ⊎ (v ≡ 3)) s → Decided (length x < 20) t → Decided (length y < 20) u → (g h : Header)
+        → newnessRead (cond s (cond t (Reading.refused 4) (header g)) (Reading.refused 1)) (cond s (cond u (Reading.refused 4) (header h)) (Reading.refused 1)) ≡ newness g h
+    go (fails n) d e g h = absurd (n k)
+    go (holds z) (holds l) e g h = absurd (p l)
+    go (holds z) (fails l) (holds m) g h = absurd (q m)
+    go (holds z) (fails l) (fails m) g h = refl
 
 -- The bytes of a header with this last byte of its LS sequence number, 0x80000000 and that.
 abbrev instance : ℕ → List ℕ

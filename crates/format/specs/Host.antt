@@ -1,16 +1,18 @@
--- What the host's one number says, with the lent buffer before and after the call: the requirements of a walk as whoever
--- calls an export sees them.
-use Prim.Native.Nat.{ℕ, _/_, _%_}
+-- What the host's one number says: of a walk, with the lent buffer before and after the call; of newness, of the prefix
+-- comparison, and of a step. The requirements as whoever calls an export sees them.
+use Prim.Native.Nat.{ℕ, _+_, _/_, _%_, _≤_, _<_}
 use mathlib.Core.Path.{_≡_}
-use mathlib.Core.Logic.{_⊎_}
-use mathlib.Core.List.{List}
-use lib.ListN.{length, take, drop}
-use Rattle.format.specs.Refusals.{Numbers}
+use mathlib.Core.Logic.{_↔_, _⊎_}
+use mathlib.Core.List.{List, _++_}
+use lib.ListN.{length, getD, take, drop, replicate}
+use Rattle.format.specs.Header.{headerAt}
+use Rattle.format.specs.Newer.{Newer}
+use Rattle.format.specs.Refusals.{Numbers, NewnessRefusals, Kind, entryEnd}
 use Rattle.format.specs.Shown.{HeadersShow, UpdateShows, OneShows}
 
 -- The low 32 bits, and the 8 above them.
-abbrev pub lengthIn : ℕ → ℕ
-lengthIn r = r % 4294967296
+abbrev pub resultIn : ℕ → ℕ
+resultIn r = r % 4294967296
 
 abbrev pub numberIn : ℕ → ℕ
 numberIn r = r / 4294967296 % 256
@@ -20,11 +22,11 @@ numberIn r = r / 4294967296 % 256
 -- bytes are a strip that shows what was asked for, and the others are those of before; refused, all are.
 pub record Host (v : ℕ) (d : List ℕ) (o least needed : ℕ) (Shown : (strip : List ℕ) → Type 0) (before after : List ℕ) (r : ℕ) : Type 0 where
   pub numbers : Numbers v d o least (length before) needed (numberIn r)
-  pub length-of : ((numberIn r ≡ 0) ⊎ (numberIn r ≡ 5)) → lengthIn r ≡ needed
-  pub no-length : (numberIn r ≡ 0 → ⊥) → (numberIn r ≡ 5 → ⊥) → lengthIn r ≡ 0
+  pub length-of : ((numberIn r ≡ 0) ⊎ (numberIn r ≡ 5)) → resultIn r ≡ needed
+  pub no-length : (numberIn r ≡ 0 → ⊥) → (numberIn r ≡ 5 → ⊥) → resultIn r ≡ 0
   pub other-bits : r / 1099511627776 ≡ 0
-  pub strip : numberIn r ≡ 0 → Shown (take (lengthIn r) after)
-  pub past : numberIn r ≡ 0 → drop (lengthIn r) after ≡ drop (lengthIn r) before
+  pub strip : numberIn r ≡ 0 → Shown (take (resultIn r) after)
+  pub past : numberIn r ≡ 0 → drop (resultIn r) after ≡ drop (resultIn r) before
   pub left : (numberIn r ≡ 0 → ⊥) → after ≡ before
   pub as-long : length after ≡ length before
 
@@ -38,3 +40,35 @@ UpdateStrip v d count o strip = (records : ℕ) × (tail : ℕ) × UpdateShows v
 
 abbrev pub LsaStrip : ℕ → List ℕ → ℕ → List ℕ → Type 0
 LsaStrip v d o strip = (records : ℕ) × (tail : ℕ) × OneShows v d o strip records tail
+
+-- Which of two LSAs, by their bytes, is newer. Where none is refused, 1 is answered exactly where the first is by the rules of
+-- RFC 2328 13.1, 2 where the second is, and 0 where neither is.
+pub record NewnessHost (v : ℕ) (x y : List ℕ) (r : ℕ) : Type 0 where
+  pub numbers : NewnessRefusals v x y (numberIn r)
+  pub first-newer : numberIn r ≡ 0 → (resultIn r ≡ 1) ↔ Newer (headerAt v x) (headerAt v y)
+  pub second-newer : numberIn r ≡ 0 → (resultIn r ≡ 2) ↔ Newer (headerAt v y) (headerAt v x)
+  pub neither : numberIn r ≡ 0 → (resultIn r ≡ 0) ↔ ((Newer (headerAt v x) (headerAt v y) → ⊥) × (Newer (headerAt v y) (headerAt v x) → ⊥))
+  pub no-result : (numberIn r ≡ 0 → ⊥) → resultIn r ≡ 0
+  pub other-bits : r / 1099511627776 ≡ 0
+
+-- An address from the octets of a prefix, as they lie in a packet: those, then zeros to 16; more are cut.
+abbrev pub filled : List ℕ → List ℕ
+filled a = take 16 (a ++ replicate 16 0)
+
+-- Whether two prefixes are the same, each a length in bits and octets.
+pub record PrefixHost (l : ℕ) (a : List ℕ) (m : ℕ) (b : List ℕ) (r : ℕ) : Type 0 where
+  pub ten : (numberIn r ≡ 10) ↔ ((128 < l) ⊎ (128 < m))
+  pub zero : (numberIn r ≡ 0) ↔ ((l ≤ 128) × (m ≤ 128))
+  pub same : (resultIn r ≡ 1) ↔ ((l ≤ 128) × (m ≤ 128) × (l ≡ m) × (filled a ≡ filled b))
+  pub no-other : resultIn r ≤ 1
+  pub other-bits : r / 1099511627776 ≡ 0
+
+-- What stands at the place p of a strip: an entry as long as is answered, the end, or a refusal.
+pub record StepHost (s : List ℕ) (p r : ℕ) : Type 0 where
+  pub six : (numberIn r ≡ 6) ↔ (length s < p)
+  pub seven : (numberIn r ≡ 7) ↔ ((p < length s) × (Kind (getD s p 0) → ⊥))
+  pub eight : (numberIn r ≡ 8) ↔ ((p < length s) × Kind (getD s p 0) × (length s < entryEnd s p))
+  pub ends : ((numberIn r ≡ 0) × (resultIn r ≡ 0)) ↔ (p ≡ length s)
+  pub gives : (0 < resultIn r) ↔ ((p < length s) × Kind (getD s p 0) × (entryEnd s p ≤ length s))
+  pub next : 0 < resultIn r → p + resultIn r ≡ entryEnd s p
+  pub other-bits : r / 1099511627776 ≡ 0

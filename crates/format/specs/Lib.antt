@@ -10,6 +10,7 @@ pub mod Body
 pub mod V2
 pub mod V3
 pub mod Walks
+pub mod Packed
 pub mod Part
 pub mod Print
 pub mod Pieces

@@ -1,5 +1,5 @@
 -- The three walks: a header list, a link-state update, a single LSA. What each makes of its data, or which refusal.
-use Prim.Native.Nat.{ℕ, _+_, _-_, _*_}
+use Prim.Native.Nat.{ℕ, _+_, _-_}
 use mathlib.Core.Bool.{cond}
 use mathlib.Core.List.{List, _++_}
 use mathlib.Core.Option.{Option, none, some}
@@ -124,7 +124,3 @@ answerOf (accepted es r t) room = cond (ltb room (length (encode es))) (answer 5
 unfoldable pub stripOf : Outcome → List ℕ → List ℕ
 stripOf (refused n) before = before
 stripOf (accepted es r t) before = cond (ltb (length before) (length (encode es))) before (sets before 0 (encode es))
-
--- The answer to the host, in one number of 64 bits: the length in the low 32, the number in the next 8.
-abbrev pub packed : Answer → ℕ
-packed a = a .number * 4294967296 + a .size

@@ -1,17 +1,30 @@
-// The walks for the host, in C's calling convention: numbers as themselves, a slice as a pointer and a length. The answer is
-// one number: the strip's length in the low 32 bits, the refusal's number in the next 8, the rest zero.
+// The library for the host, in C's calling convention: numbers as themselves, a slice as a pointer and a length. The answer is
+// one number: the result in the low 32 bits (of a walk the strip's length), the refusal's number in the next 8, the rest zero.
 ghost use mathlib.Core.Path.{_≡_};
 ghost use Prim.Native.Nat.{_<_};
 ghost use lib.ListN.{length};
-ghost use Rattle.format.specs.Walks.{headersOf, updateOf, lsaOf, answerOf, stripOf, packed};
-use walk::Answer;
+ghost use Rattle.format.specs.Walks.{headersOf, updateOf, lsaOf, answerOf, stripOf};
+ghost use Rattle.format.specs.Header.{newnessAt};
+ghost use Rattle.format.specs.Prefix.{address, comparison};
+ghost use Rattle.format.specs.Strip.{stepAt};
+ghost use Rattle.format.specs.Packed.{word, packed, packedNewness, packedComparison, packedStep};
+ghost use Rattle.ospf.specs.Answers.{newnessWord, comparisonWord, stepWord};
+use header::Newness;
+use header::newer_lsa;
+use strip_step::Step;
+use strip_step::step_at;
+use tlv::Comparison;
+use tlv::Prefix;
+use tlv::compare_prefixes;
+use tlv::prefix_to_ipv6;
 
 #[no_mangle]
 pub extern "C" fn ospf_lsa_headers(version: u8, data: &[u8], offset: u64, strip: &mut [u8]) -> u64
     ensures { λ r. ⌜ r ≡ packed (answerOf (headersOf version (now («data» .entry)) offset) (length (now (strip .entry)))) ⌝ }
     ensures { λ r. ⌜ now (strip .exit) ≡ stripOf (headersOf version (now («data» .entry)) offset) (now (strip .entry)) ⌝ }
 {
-    pack(walk::push_lsa_headers(version, data, offset, strip))
+    let a = walk::push_lsa_headers(version, data, offset, strip);
+    pack(a.number, a.length)
 }
 
 #[no_mangle]
@@ -25,7 +38,8 @@ pub extern "C" fn ospf_lsu_lsas(
     ensures { λ r. ⌜ r ≡ packed (answerOf (updateOf version (now («data» .entry)) count offset) (length (now (strip .entry)))) ⌝ }
     ensures { λ r. ⌜ now (strip .exit) ≡ stripOf (updateOf version (now («data» .entry)) count offset) (now (strip .entry)) ⌝ }
 {
-    pack(walk::push_lsu_lsas(version, data, count, offset, strip))
+    let a = walk::push_lsu_lsas(version, data, count, offset, strip);
+    pack(a.number, a.length)
 }
 
 #[no_mangle]
@@ -33,13 +47,76 @@ pub extern "C" fn ospf_lsa(version: u8, data: &[u8], offset: u64, strip: &mut [u
     ensures { λ r. ⌜ r ≡ packed (answerOf (lsaOf version (now («data» .entry)) offset) (length (now (strip .entry)))) ⌝ }
     ensures { λ r. ⌜ now (strip .exit) ≡ stripOf (lsaOf version (now («data» .entry)) offset) (now (strip .entry)) ⌝ }
 {
-    pack(walk::push_lsa(version, data, offset, strip))
+    let a = walk::push_lsa(version, data, offset, strip);
+    pack(a.number, a.length)
 }
 
-// Every walk's length fits in 32 bits, as its contract says.
-fn pack(a: Answer) -> u64
-    requires { ⌜ a .length < 4294967296 ⌝ }
-    ensures { λ r. ⌜ r ≡ packed (record { number = a .number; size = a .length; records = a .records; tail = a .tail }) ⌝ }
+// Which of two LSAs is newer, by the headers at their fronts: 0 neither, 1 the first, 2 the second.
+#[no_mangle]
+pub extern "C" fn ospf_newness(version: u8, first: &[u8], second: &[u8]) -> u64
+    ensures { λ r. ⌜ r ≡ packedNewness (newnessAt version (now (first .entry)) (now (second .entry))) ⌝ }
 {
-    a.number as u64 * 4294967296 + a.length as u64
+    newness_word(newer_lsa(version, first, second))
+}
+
+// Whether two prefixes are the same: 1 or 0. Each is a length in bits and octets as they lie in a packet.
+#[no_mangle]
+pub extern "C" fn ospf_prefix_compare(
+    first_length: u8,
+    first: &[u8],
+    second_length: u8,
+    second: &[u8],
+) -> u64
+    ensures { λ r. ⌜ r ≡ packedComparison (comparison «first_length» (address (now (first .entry))) «second_length» (address (now (second .entry)))) ⌝ }
+{
+    let a = Prefix {
+        length: first_length,
+        address: prefix_to_ipv6(first),
+    };
+    let b = Prefix {
+        length: second_length,
+        address: prefix_to_ipv6(second),
+    };
+    comparison_word(compare_prefixes(a, b))
+}
+
+// The length of the entry that stands at a place of a strip, 0 at its end.
+#[no_mangle]
+pub extern "C" fn ospf_strip_step(strip: &[u8], place: usize) -> u64
+    ensures { λ r. ⌜ r ≡ packedStep place (stepAt (now (strip .entry)) place) ⌝ }
+{
+    match step_at(strip, place) {
+        Step::Entry(_, next) => pack(0, next - place),
+        Step::End => pack(0, 0),
+        Step::Refused(n) => pack(n, 0),
+    }
+}
+
+fn newness_word(newness: Newness) -> u64
+    ensures { λ r. ⌜ r ≡ newnessWord newness ⌝ }
+{
+    match newness {
+        Newness::Same => pack(0, 0),
+        Newness::First => pack(0, 1),
+        Newness::Second => pack(0, 2),
+        Newness::Refused(n) => pack(n, 0),
+    }
+}
+
+fn comparison_word(comparison: Comparison) -> u64
+    ensures { λ r. ⌜ r ≡ comparisonWord comparison ⌝ }
+{
+    match comparison {
+        Comparison::Same => pack(0, 1),
+        Comparison::Different => pack(0, 0),
+        Comparison::Refused(n) => pack(n, 0),
+    }
+}
+
+// A refusal's number, or 0, above a result.
+fn pack(number: u8, result: usize) -> u64
+    requires { ⌜ result < 4294967296 ⌝ }
+    ensures { λ r. ⌜ r ≡ word number result ⌝ }
+{
+    number as u64 * 4294967296 + result as u64
 }

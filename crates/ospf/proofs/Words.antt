@@ -1,0 +1,48 @@
+-- The code's answers are packed as those of the definitions; and how long an entry is that a step gives.
+use Prim.Native.Nat.{ℕ, _-_, _≤_, _<_}
+use native.Mathlib.Omega.{arith}
+use mathlib.Core.Path.{_≡_, refl}
+use mathlib.Core.List.{List}
+use Rattle.format.specs.Header as header
+use Rattle.format.specs.Prefix as prefix
+use Rattle.format.specs.Strip as strip
+use Rattle.format.specs.Packed.{packedNewness, packedComparison, packedStep}
+use Rattle.format.proofs.Steps.{steps}
+use Rattle.format.proofs.Comparisons.{entry-small}
+use Rattle.header.specs.Answers.{newnessOf}
+use Rattle.tlv.specs.Answers.{comparisonOf}
+use Rattle.strip_step.specs.Answers.{stepOf}
+use Rattle.strip_step.specs.declared.Entry.{Entry}
+use Rattle.strip_step.specs.declared.Step.{Step}
+use Rattle.strip_step.specs.declared.Step.the-variants as S
+use Rattle.ospf.specs.Answers.{newnessWord, comparisonWord, stepWord}
+
+pub newness-word-of : (x : header.Newness) → newnessWord (newnessOf x) ≡ packedNewness x
+newness-word-of header.Newness.first = refl
+newness-word-of header.Newness.second = refl
+newness-word-of header.Newness.same = refl
+newness-word-of (header.Newness.refused n) = refl
+
+pub comparison-word-of : (x : prefix.Comparison) → comparisonWord (comparisonOf x) ≡ packedComparison x
+comparison-word-of prefix.Comparison.same = refl
+comparison-word-of prefix.Comparison.different = refl
+comparison-word-of (prefix.Comparison.refused n) = refl
+
+pub step-word-of : (s : List ℕ) (p : ℕ) {x y : Step} → x ≡ stepOf (strip.stepAt s p) → x ≡ y → stepWord p y ≡ packedStep p (strip.stepAt s p)
+step-word-of s p e f = rw (← f, e) (go (strip.stepAt s p))
+  where
+    go : (x : strip.Step) → stepWord p (stepOf x) ≡ packedStep p x
+    go (strip.Step.entry x q) = refl
+    go strip.Step.end = refl
+    go (strip.Step.refused n) = refl
+
+pub entry-length : (s : List ℕ) (p : ℕ) (e : Entry) (q : ℕ) → stepOf (strip.stepAt s p) ≡ S.Entry e q → (p ≤ q) × (q - p < 4294967296)
+entry-length s p e q f = go (strip.stepAt s p) refl f
+  where
+    go : (x : strip.Step) → strip.stepAt s p ≡ x → stepOf x ≡ S.Entry e q → (p ≤ q) × (q - p < 4294967296)
+    go (strip.Step.entry x k) g h =
+        let i : k ≡ q = cc in
+        let j = steps s p .gives x k .0 g .4 in
+        (omega arith, omega (arith, entry-small s p))
+    go strip.Step.end g h = let z : _≡_ {A = ℕ} 0 1 = cc in absurd (omega arith)
+    go (strip.Step.refused n) g h = let z : _≡_ {A = ℕ} 0 1 = cc in absurd (omega arith)
