@@ -61,7 +61,7 @@ fn tick() {
 /// A change after which `rt` has to run, once.
 fn changed(name: &str, change: impl Fn(&Repository)) {
     let repository = repository(name, MAKES);
-    repository.write("crates/first/specs/Old.antt", "");
+    repository.write("crates/first/old/source", "");
     assert!(runs(&repository));
     tick();
     change(&repository);
@@ -71,23 +71,19 @@ fn changed(name: &str, change: impl Fn(&Repository)) {
 
 #[test]
 fn edited_source_is_built() {
-    changed("build-edited", |r| {
-        r.append("crates/first/src/lib.rt", "\n")
-    });
+    changed("build-edited", |r| r.append("crates/first/source", "\n"));
     changed("build-listed", |r| r.append("crates.txt", "\n"));
 }
 
 #[test]
 fn added_source_is_built() {
-    changed("build-added", |r| {
-        r.write("crates/first/specs/New.antt", "")
-    });
+    changed("build-added", |r| r.write("crates/first/new/source", ""));
 }
 
 #[test]
 fn deleted_source_is_built() {
     changed("build-deleted", |r| {
-        fs::remove_file(r.path("crates/first/specs/Old.antt")).unwrap()
+        fs::remove_file(r.path("crates/first/old/source")).unwrap()
     });
     changed("build-less", |r| {
         fs::remove_dir_all(r.path("crates/other")).unwrap()
@@ -100,7 +96,7 @@ fn source_with_an_older_time_is_built() {
     changed("build-older", |r| {
         let file = File::options()
             .append(true)
-            .open(r.path("crates/first/src/lib.rt"))
+            .open(r.path("crates/first/source"))
             .unwrap();
         file.set_modified(SystemTime::UNIX_EPOCH).unwrap();
     });
@@ -108,7 +104,7 @@ fn source_with_an_older_time_is_built() {
 
 #[test]
 fn edit_during_the_run_is_built() {
-    let edits = format!("{MAKES}sleep 0.05; echo >>crates/first/src/lib.rt; sleep 0.05\n");
+    let edits = format!("{MAKES}sleep 0.05; echo >>crates/first/source; sleep 0.05\n");
     let repository = repository("build-during", &edits);
     assert!(runs(&repository));
     repository.write("does/check", MAKES);
@@ -172,7 +168,7 @@ fn proofs_are_counted() {
     let unchanged = "echo 'rt: first proved (unchanged since it was last proved)'; echo 'rt: second proved (1 s)'\n";
     repository.write("does/check", unchanged);
     tick();
-    repository.append("crates/second/src/lib.rt", "\n");
+    repository.append("crates/second/source", "\n");
     let (_, stderr) = texts(&build(&repository).output().unwrap());
     assert!(!stderr.contains("proved first"), "{stderr}");
     assert!(

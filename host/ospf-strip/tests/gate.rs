@@ -48,8 +48,8 @@ fn steps_are_counted() {
 fn crates_that_are_not_listed_are_named() {
     let repository = repository("gate-lists");
     repository.append("crates.txt", "thirdly:\n");
-    repository.write("crates/third/src/lib.rt", "");
-    repository.write("crates/fourth/src/lib.rt", "");
+    repository.write("crates/third/source", "");
+    repository.write("crates/fourth/source", "");
     let (passed, lines) = run(&repository);
     assert!(!passed);
     assert_eq!(

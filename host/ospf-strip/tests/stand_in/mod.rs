@@ -1,4 +1,5 @@
 //! A small repository with a stand-in for `rt`, in which a script of this one runs in milliseconds and proves nothing.
+//! It has no `.rt` and no `.antt` file: `rt` looks for those in all of this repository, and wants each in a listed crate.
 
 use std::env;
 use std::fs::{self, OpenOptions};
@@ -26,7 +27,7 @@ impl Repository {
             "# In order.\nfirst:\nother:\nsecond: first io\n",
         );
         for name in ["first", "other", "second"] {
-            repository.write(&format!("crates/{name}/src/lib.rt"), "");
+            repository.write(&format!("crates/{name}/source"), "");
         }
         repository
     }
