@@ -1,4 +1,4 @@
--- Numbers and bytes. Every number of OSPF, and of the strip, has its most significant byte first (RFC 2328 A.1).
+-- Numbers and bytes. Every number of OSPF, and of the strip, has its most significant byte first (RFC 791, appendix B).
 use Prim.Native.Nat.{ℕ, _+_, _*_, _/_, _%_}
 use mathlib.Core.Bool.{Bool, true, false, cond}
 use mathlib.Core.List.{List, [], _∷_, _++_}

@@ -328,7 +328,7 @@ eLinkLsa b o = tlvLsa 4 (entriesAt eLinkRows b o 0) b o
 abbrev pub eIntraAreaPrefixLsa : List ℕ → ℕ → Body
 eIntraAreaPrefixLsa b o = tlvLsa 12 (references b o) b o
 
--- The body of an LSA function code: RFC 5340 A.4.2.1, RFC 7770 2.2 (12), RFC 8362 4 (33 to 41), RFC 9513 7 (42).
+-- The body of an LSA function code: RFC 5340 A.4.2.1, RFC 7770 2.2 (12), RFC 8362 2 (33 to 37, 39 to 41), RFC 9513 7 (42).
 unfoldable pub body3 : (function : ℕ) → List ℕ → ℕ → Body
 body3 f b o =
     cond (eqb f 1) (routerLsa3 b o)

@@ -1,5 +1,5 @@
-// v3_lsa.rs: the entries of a version 3 LSA, by its function code (RFC 5340 A.4, RFC 7770 2.2, RFC 8362 4, RFC 9513 7).
-// The bodies with prefixes are in the crates `v3_prefix_lsa` and `v3_external`.
+// v3_lsa.rs: the entries of a version 3 LSA, by its function code (RFC 5340 A.4, RFC 7770 2.2, RFC 8362 2 and 4,
+// RFC 9513 7). The bodies with prefixes are in the crates `v3_prefix_lsa` and `v3_external`.
 ghost use mathlib.Core.Path.{_≡_};
 ghost use Prim.Native.Nat.{_+_, _*_, _≤_, _<_};
 ghost use mathlib.Core.List.{flatMap};

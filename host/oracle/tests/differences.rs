@@ -199,7 +199,7 @@ fn options_are_not_taken_apart() {
                FFFFFF00 80 00000A 00000000 00000000";
     let (strip, ..) = run(2, Walk::Lsa, &hex(lsa));
     assert!(has(&strip, "u8 1 2 3 10"));
-    // RFC 3101 2.4: with the P-bit, which is 0x08, the address is not zero.
+    // RFC 3101: with the P-bit, which is 0x08, the address is not zero.
     assert!(has(&strip, "ip4 21 28 32 0.0.0.0"));
 }
 
@@ -223,6 +223,7 @@ fn link_local_address_is_not_tested() {
 
 #[test]
 fn types_with_a_layout_that_stay_raw() {
+    // Type 8 never had a layout.
     for ls_type in ["06", "08"] {
         let lsa =
             format!("0001 02 {ls_type} 0A000001 0A000001 80000001 0000 001C 00000001 0A000001");
@@ -237,7 +238,7 @@ fn types_with_a_layout_that_stay_raw() {
     }
 }
 
-/// RFC 3630 2.2 has the TE LSA in LS type 10 alone.
+/// RFC 3630 2.1 has the TE LSA in LS type 10 alone.
 #[test]
 fn opaque_type_with_any_ls_type() {
     for ls_type in ["09", "0A", "0B"] {

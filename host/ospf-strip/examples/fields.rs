@@ -9,6 +9,9 @@ use std::process::ExitCode;
 
 use ospf_strip::{Buffer, Entry, Kind, Refusal, Strip};
 
+/// The most bytes of input, as of the program `dissect`.
+const MAX_INPUT: usize = 2_050;
+
 fn main() -> ExitCode {
     let Some(path) = env::args().nth(1) else {
         eprintln!("usage: fields FILE");
@@ -21,38 +24,38 @@ fn main() -> ExitCode {
             return ExitCode::FAILURE;
         }
     };
-    let [version, walk, data @ ..] = input.as_slice() else {
-        eprintln!("{path}: no version and walk");
+    let Some(version) = input.first() else {
+        eprintln!("{path}: empty, with no byte for the version and the walk");
         return ExitCode::FAILURE;
     };
-    let mut buffer = Buffer::new();
-    match run(&mut buffer, *version, *walk, data) {
-        Ok(strip) => {
-            print(*version, strip);
-            ExitCode::SUCCESS
-        }
-        Err(refusal) => {
-            println!("refused {}", refusal.number());
-            ExitCode::FAILURE
-        }
+    match run(&mut Buffer::new(), &input) {
+        Ok(strip) => print(*version, strip),
+        // The length needed is 0: the buffer grows to what a walk needs.
+        Err(number) => println!("refused {number} 0"),
     }
+    ExitCode::SUCCESS
 }
 
-fn run<'a>(
-    buffer: &'a mut Buffer,
-    version: u8,
-    walk: u8,
-    data: &[u8],
-) -> Result<Strip<'a>, Refusal> {
-    match walk {
-        0 => buffer.lsa_headers(version, data, 0),
+/// The strip of an input, or the number of its refusal, as the program
+/// `dissect` gives them.
+fn run<'a>(buffer: &'a mut Buffer, input: &[u8]) -> Result<Strip<'a>, u8> {
+    if input.len() > MAX_INPUT {
+        return Err(2);
+    }
+    let [version, walk, data @ ..] = input else {
+        return Err(4);
+    };
+    let strip = match walk {
+        0 => buffer.lsa_headers(*version, data, 0),
         1 => {
             // An update's body begins with its number of LSAs.
             let count = data.first_chunk().map_or(0, |b| u32::from_be_bytes(*b));
-            buffer.lsu_lsas(version, data, count, 0)
+            buffer.lsu_lsas(*version, data, count, 0)
         }
-        _ => buffer.lsa(version, data, 0),
-    }
+        2 => buffer.lsa(*version, data, 0),
+        _ => return Err(12),
+    };
+    strip.map_err(Refusal::number)
 }
 
 /// A line an entry: name, byte range, value; indented by its containers.

@@ -1,0 +1,164 @@
+//! The commands `./dissect` and `./fields`: what they take as input, and that they agree on what is refused.
+
+use std::fs;
+use std::os::unix::fs::symlink;
+use std::path::{Path, PathBuf};
+use std::process::{Command, Output, Stdio};
+use std::sync::Once;
+
+const COMMANDS: [&str; 2] = ["dissect", "fields"];
+
+fn top() -> PathBuf {
+    Path::new(env!("CARGO_MANIFEST_DIR")).join("../..")
+}
+
+fn run(command: &str, words: &[&str], stdin: Stdio) -> Output {
+    Command::new(top().join(command))
+        .args(words)
+        .current_dir(top())
+        .stdin(stdin)
+        .output()
+        .unwrap()
+}
+
+/// Has both commands build what they need, once, so that no two tests do so at a time.
+fn built() {
+    static BUILT: Once = Once::new();
+    BUILT.call_once(|| {
+        for command in COMMANDS {
+            let output = run(command, &["examples/headers-v2.bin"], Stdio::null());
+            assert!(output.status.success(), "{output:?}");
+        }
+    });
+}
+
+/// A file of these bytes, of a name that no other test has.
+fn file(name: &str, bytes: &[u8]) -> String {
+    let path = Path::new(env!("CARGO_TARGET_TMPDIR")).join(name);
+    fs::write(&path, bytes).unwrap();
+    path.into_os_string().into_string().unwrap()
+}
+
+fn text(bytes: Vec<u8>) -> String {
+    String::from_utf8(bytes).unwrap()
+}
+
+/// What a command prints for an input that it takes.
+fn printed(command: &str, words: &[&str], stdin: Stdio) -> String {
+    let output = run(command, words, stdin);
+    assert!(output.status.success(), "{command}: {output:?}");
+    assert_eq!(text(output.stderr), "", "{command}");
+    text(output.stdout)
+}
+
+/// Asserts that both commands end with this status, print nothing, and say this on one line of standard error.
+fn fail(words: &[&str], stdin: impl Fn() -> Stdio, status: i32, says: &str) {
+    for command in COMMANDS {
+        let output = run(command, words, stdin());
+        assert_eq!(output.status.code(), Some(status), "{command}: {output:?}");
+        assert_eq!(text(output.stdout), "");
+        let line = says.replace("COMMAND", &format!("./{command}"));
+        assert_eq!(text(output.stderr), format!("{line}\n"));
+    }
+}
+
+#[test]
+fn one_file_is_asked_for() {
+    let usage = "usage: COMMAND FILE, or COMMAND - for standard input";
+    fail(&[], Stdio::null, 2, usage);
+    let two = ["examples/headers-v2.bin", "examples/update-v2.bin"];
+    fail(&two, Stdio::null, 2, usage);
+}
+
+#[test]
+fn file_that_cannot_be_read_is_named() {
+    let missing = "COMMAND: examples/none.bin: no such file";
+    fail(&["examples/none.bin"], Stdio::null, 1, missing);
+    let directory = "COMMAND: examples: a directory, not a file";
+    fail(&["examples"], Stdio::null, 1, directory);
+}
+
+#[test]
+fn empty_input_is_an_error() {
+    let empty = file("commands-empty", b"");
+    let says = "empty, with no byte for the version and the walk";
+    let line = format!("COMMAND: {empty}: {says}");
+    fail(&[&empty], Stdio::null, 1, &line);
+    let line = format!("COMMAND: standard input: {says}");
+    fail(&["-"], Stdio::null, 1, &line);
+}
+
+#[test]
+fn standard_input_is_read() {
+    built();
+    for command in COMMANDS {
+        let path = "examples/update-v3.bin";
+        let by_name = printed(command, &[path], Stdio::null());
+        assert!(by_name.lines().count() > 10, "{by_name}");
+        let open = || Stdio::from(fs::File::open(top().join(path)).unwrap());
+        assert_eq!(printed(command, &["-"], open()), by_name);
+        assert_eq!(printed(command, &["/dev/stdin"], open()), by_name);
+    }
+}
+
+/// Inputs, and the number of the refusal if there is one.
+#[test]
+fn refusals_agree() {
+    built();
+    let lsa = |version, walk| [vec![version, walk], vec![0; 20]].concat();
+    let cases = [
+        (vec![2], Some(4)),
+        (lsa(2, 2), None),
+        (lsa(2, 3), Some(12)),
+        (lsa(3, 255), Some(12)),
+        (lsa(1, 3), Some(12)),
+        (lsa(0, 0), Some(1)),
+        (lsa(4, 2), Some(1)),
+        (vec![2, 1, 0, 0, 0], Some(4)),
+        (vec![3, 2], Some(4)),
+        (vec![2, 0], None),
+        ([vec![2, 0], vec![0; 2048]].concat(), None),
+        ([vec![2, 0], vec![0; 2049]].concat(), Some(2)),
+        (vec![9; 70_000], Some(2)),
+    ];
+    for (input, number) in cases {
+        let path = file("commands-refused", &input);
+        let start = &input[..input.len().min(4)];
+        for command in COMMANDS {
+            let text = printed(command, &[&path], Stdio::null());
+            match number {
+                Some(n) => assert_eq!(text, format!("refused {n} 0\n"), "{command} {start:?}"),
+                None => assert!(!text.starts_with("refused"), "{command} {start:?}: {text}"),
+            }
+        }
+    }
+}
+
+/// An error is found before anything is built: here there is nothing to build with.
+#[test]
+fn errors_come_before_the_build() {
+    let copy = Path::new(env!("CARGO_TARGET_TMPDIR")).join("commands-unbuilt");
+    if copy.exists() {
+        fs::remove_dir_all(&copy).unwrap();
+    }
+    fs::create_dir_all(copy.join("tools")).unwrap();
+    for name in ["dissect", "fields", "tools/input"] {
+        symlink(top().join(name), copy.join(name)).unwrap();
+    }
+    let empty = file("commands-unbuilt-empty", b"");
+    for command in COMMANDS {
+        for word in ["none", ".", &empty, "-"] {
+            let output = Command::new("sh")
+                .arg(copy.join(command))
+                .arg(word)
+                .current_dir(&copy)
+                .stdin(Stdio::null())
+                .output()
+                .unwrap();
+            assert_eq!(output.status.code(), Some(1), "{command} {word}");
+            let line = text(output.stderr);
+            assert!(line.starts_with(&format!("./{command}: ")), "{line}");
+            assert_eq!(line.lines().count(), 1, "{line}");
+        }
+    }
+}
