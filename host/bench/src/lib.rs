@@ -4,6 +4,7 @@
 
 pub mod careful;
 pub mod corpus;
+pub mod read;
 
 use compare::Walks;
 use inputs::Input;

@@ -11,7 +11,7 @@ use std::fmt;
 
 use inputs::{Class, Input, Take};
 use oracle::Walk;
-use ospf_strip::walks;
+use ospf_strip::exports;
 
 /// The walks to compare, in the shapes of the static library's exports.
 #[derive(Clone, Copy)]
@@ -23,9 +23,9 @@ pub struct Walks {
 
 /// The proved walks, behind `ospf-strip`.
 pub const PROVED: Walks = Walks {
-    headers: walks::ospf_lsa_headers,
-    update: walks::ospf_lsu_lsas,
-    lsa: walks::ospf_lsa,
+    headers: exports::ospf_lsa_headers,
+    update: exports::ospf_lsu_lsas,
+    lsa: exports::ospf_lsa,
 };
 
 impl Walks {
@@ -104,7 +104,11 @@ impl Comparison {
         rooms.into_iter().find_map(|room| {
             self.calls += 1;
             // Two fillings by turns, so that no byte can hide in the filling.
-            let filling = if self.calls % 2 == 0 { 0xA5 } else { 0x5A };
+            let filling = if self.calls.is_multiple_of(2) {
+                0xA5
+            } else {
+                0x5A
+            };
             let mut expected = vec![filling; room + 2 * MARGIN];
             let mut found = expected.clone();
             let answer = outcome.lend(&mut expected[MARGIN..MARGIN + room]).packed();

@@ -65,7 +65,7 @@ pub fn count(rng: &mut Rng, take: &mut Take<'_>) {
 fn records(rng: &mut Rng, n: u32, count: u32, extra: usize, take: &mut Take<'_>) {
     for version in [2, 3] {
         let records: Vec<Vec<u8>> = (0..n).map(|_| structured(rng, version)).collect();
-        let mut data = update(rng.next() as u32, &records);
+        let mut data = update(rng.bits() as u32, &records);
         data.extend(rng.bytes(extra));
         take(counted(Class::Count, version, data, count, rng.offset()));
     }

@@ -73,7 +73,7 @@ pub fn damaged(rng: &mut Rng, rounds: u32, take: &mut Take<'_>) {
                 damage(rng, &mut input.data);
             }
             if input.walk == Walk::Update && rng.below(8) == 0 {
-                input.count = rng.next() as u32;
+                input.count = rng.bits() as u32;
             }
             take(input);
         }

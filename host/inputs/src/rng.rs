@@ -11,7 +11,7 @@ impl Rng {
     }
 
     /// The next 64 bits.
-    pub fn next(&mut self) -> u64 {
+    pub fn bits(&mut self) -> u64 {
         self.0 = self.0.wrapping_add(0x9E37_79B9_7F4A_7C15);
         let mut z = self.0;
         z = (z ^ z >> 30).wrapping_mul(0xBF58_476D_1CE4_E5B9);
@@ -21,19 +21,19 @@ impl Rng {
 
     /// A number below `bound`, which is not zero.
     pub fn below(&mut self, bound: usize) -> usize {
-        (self.next() % bound as u64) as usize
+        (self.bits() % bound as u64) as usize
     }
 
     /// One byte.
     pub fn byte(&mut self) -> u8 {
-        self.next() as u8
+        self.bits() as u8
     }
 
     /// `n` bytes.
     pub fn bytes(&mut self, n: usize) -> Vec<u8> {
         let mut bytes: Vec<u8> = Vec::with_capacity(n + 7);
         while bytes.len() < n {
-            bytes.extend_from_slice(&self.next().to_be_bytes());
+            bytes.extend_from_slice(&self.bits().to_be_bytes());
         }
         bytes.truncate(n);
         bytes
@@ -50,7 +50,7 @@ impl Rng {
             0 => 0,
             1 => self.below(1_500) as u64,
             2 => crate::MOST_OFFSET,
-            _ => self.next() % (crate::MOST_OFFSET + 1),
+            _ => self.bits() % (crate::MOST_OFFSET + 1),
         }
     }
 }

@@ -7,7 +7,7 @@ use std::env;
 use std::fs;
 use std::process::ExitCode;
 
-use ospf_strip::{Buffer, Entry, Kind, Refusal, Strip};
+use ospf_strip::{Buffer, Entry, Kind, Refusal, Strip, Version};
 
 /// The most bytes of input, as of the program `dissect`.
 const MAX_INPUT: usize = 2_050;
@@ -24,12 +24,12 @@ fn main() -> ExitCode {
             return ExitCode::FAILURE;
         }
     };
-    let Some(version) = input.first() else {
+    if input.is_empty() {
         eprintln!("{path}: empty, with no byte for the version and the walk");
         return ExitCode::FAILURE;
-    };
+    }
     match run(&mut Buffer::new(), &input) {
-        Ok(strip) => print(*version, strip),
+        Ok(strip) => print(strip),
         // The length needed is 0: the buffer grows to what a walk needs.
         Err(number) => println!("refused {number} 0"),
     }
@@ -45,36 +45,39 @@ fn run<'a>(buffer: &'a mut Buffer, input: &[u8]) -> Result<Strip<'a>, u8> {
     let [version, walk, data @ ..] = input else {
         return Err(4);
     };
+    if *walk > 2 {
+        return Err(12);
+    }
+    let version = Version::try_from(*version).map_err(Refusal::number)?;
     let strip = match walk {
-        0 => buffer.lsa_headers(*version, data, 0),
+        0 => buffer.lsa_headers(version, data, 0),
         1 => {
             // An update's body begins with its number of LSAs.
             let count = data.first_chunk().map_or(0, |b| u32::from_be_bytes(*b));
-            buffer.lsu_lsas(*version, data, count, 0)
+            buffer.lsu_lsas(version, data, count, 0)
         }
-        2 => buffer.lsa(*version, data, 0),
-        _ => return Err(12),
+        _ => buffer.lsa(version, data, 0),
     };
     strip.map_err(Refusal::number)
 }
 
 /// A line an entry: name, byte range, value; indented by its containers.
-fn print(version: u8, strip: Strip) {
+fn print(strip: Strip) {
     let mut depth = 0;
     for entry in strip {
         if entry.kind() == Kind::Close {
             depth -= 1;
             continue;
         }
-        println!("{:1$}{2}", "", 2 * depth, line(version, &entry));
+        println!("{:1$}{2}", "", 2 * depth, line(&entry));
         if entry.kind() == Kind::Open {
             depth += 1;
         }
     }
 }
 
-fn line(version: u8, entry: &Entry) -> String {
-    let name = entry.name(version).unwrap_or("?");
+fn line(entry: &Entry) -> String {
+    let name = entry.name().unwrap_or("?");
     let range = entry.range().unwrap_or_default();
     let value = entry.value().map(|v| format!(" = {v}")).unwrap_or_default();
     format!("{name} [{}..{}]{value}", range.start, range.end)

@@ -1,27 +1,39 @@
-//! The entries of a strip.
+//! The entries of a strip, read where they lie.
 
 use std::fmt;
+use std::iter::FusedIterator;
 use std::net::{Ipv4Addr, Ipv6Addr};
 use std::ops::Range;
 
-use crate::{Refusal, label, name};
+use crate::names;
+use crate::{OutsidePacket, Version};
 
 /// What an entry is, with the requirements' kind bytes.
-#[derive(Clone, Copy, Debug, PartialEq, Eq)]
+#[derive(Clone, Copy, Debug, PartialEq, Eq, Hash)]
 #[repr(u8)]
+#[non_exhaustive]
 pub enum Kind {
+    /// A container begins.
     Open = 1,
+    /// The container that was opened last, and is not closed yet, ends.
     Close = 2,
+    /// A field with a value of 8 bits.
     U8 = 3,
+    /// A field with a value of 16 bits.
     U16 = 4,
+    /// A field with a value of 32 bits.
     U32 = 5,
+    /// An IPv4 address or a router id.
     Ipv4 = 6,
+    /// An IPv6 address.
     Ipv6 = 7,
+    /// Bytes of the packet, by their range alone.
     Bytes = 8,
 }
 
 /// The value of a field that has one.
-#[derive(Clone, Copy, Debug, PartialEq, Eq)]
+#[derive(Clone, Copy, Debug, PartialEq, Eq, Hash)]
+#[non_exhaustive]
 pub enum Value {
     U8(u8),
     U16(u16),
@@ -42,172 +54,201 @@ impl fmt::Display for Value {
     }
 }
 
-/// One entry of a strip.
-#[derive(Clone, Debug, PartialEq, Eq)]
-pub struct Entry {
-    kind: Kind,
-    id: u8,
-    range: Range<u32>,
-    value: Option<Value>,
+/// Where an entry's value begins: after kind, id, start and end.
+const HEAD: usize = 10;
+
+/// An entry's bytes, from its kind on. The kind fixes how many there are, so
+/// whoever holds one reads it without a test.
+#[derive(Clone, Copy, PartialEq, Eq, Hash)]
+enum View<'a> {
+    Open(&'a [u8; HEAD]),
+    Close,
+    U8(&'a [u8; HEAD + 1]),
+    U16(&'a [u8; HEAD + 2]),
+    U32(&'a [u8; HEAD + 4]),
+    Ipv4(&'a [u8; HEAD + 4]),
+    Ipv6(&'a [u8; HEAD + 16]),
+    Bytes(&'a [u8; HEAD]),
 }
 
-impl Entry {
+/// One entry of a strip: a view of its bytes, which are read when asked for.
+#[derive(Clone, Copy, PartialEq, Eq, Hash)]
+pub struct Entry<'a> {
+    version: Version,
+    view: View<'a>,
+}
+
+impl<'a> Entry<'a> {
     /// What the entry is.
+    #[inline]
+    #[must_use]
     pub fn kind(&self) -> Kind {
-        self.kind
+        match self.view {
+            View::Open(_) => Kind::Open,
+            View::Close => Kind::Close,
+            View::U8(_) => Kind::U8,
+            View::U16(_) => Kind::U16,
+            View::U32(_) => Kind::U32,
+            View::Ipv4(_) => Kind::Ipv4,
+            View::Ipv6(_) => Kind::Ipv6,
+            View::Bytes(_) => Kind::Bytes,
+        }
+    }
+
+    /// Kind, id, start and end; a close has none.
+    #[inline]
+    fn head(&self) -> Option<&'a [u8; HEAD]> {
+        match self.view {
+            View::Open(bytes) | View::Bytes(bytes) => Some(bytes),
+            View::Close => None,
+            View::U8(bytes) => bytes.first_chunk(),
+            View::U16(bytes) => bytes.first_chunk(),
+            View::U32(bytes) | View::Ipv4(bytes) => bytes.first_chunk(),
+            View::Ipv6(bytes) => bytes.first_chunk(),
+        }
     }
 
     /// The field's id; a close has none.
+    #[inline]
+    #[must_use]
     pub fn id(&self) -> Option<u8> {
-        (self.kind != Kind::Close).then_some(self.id)
+        self.head().map(|head| head[1])
     }
 
     /// The field's place in the packet; a close has none.
+    #[inline]
+    #[must_use]
     pub fn range(&self) -> Option<Range<u32>> {
-        (self.kind != Kind::Close).then(|| self.range.clone())
+        let [_, _, a, b, c, d, e, f, g, h] = *self.head()?;
+        Some(u32::from_be_bytes([a, b, c, d])..u32::from_be_bytes([e, f, g, h]))
     }
 
     /// The value; only kinds 3 to 7 have one.
+    #[inline]
+    #[must_use]
     pub fn value(&self) -> Option<Value> {
-        self.value
+        match self.view {
+            View::Open(_) | View::Close | View::Bytes(_) => None,
+            View::U8(bytes) => Some(Value::U8(bytes[HEAD])),
+            View::U16(bytes) => Some(Value::U16(u16::from_be_bytes(*last(bytes)))),
+            View::U32(bytes) => Some(Value::U32(u32::from_be_bytes(*last(bytes)))),
+            View::Ipv4(bytes) => Some(Value::Ipv4(Ipv4Addr::from(*last(bytes)))),
+            View::Ipv6(bytes) => Some(Value::Ipv6(Ipv6Addr::from(*last::<16>(bytes)))),
+        }
     }
+}
 
+/// The last bytes of an entry.
+#[inline]
+fn last<const N: usize>(bytes: &[u8]) -> &[u8; N] {
+    bytes
+        .last_chunk()
+        .expect("an entry is longer than its value")
+}
+
+impl Entry<'_> {
     /// The reference's name of the field, for programs.
-    pub fn name(&self, version: u8) -> Option<&'static str> {
-        name(version, self.id()?)
+    #[must_use]
+    pub fn name(&self) -> Option<&'static str> {
+        names::name(self.version, self.id()?)
     }
 
     /// The reference's name of the field, for a person.
-    pub fn label(&self, version: u8) -> Option<&'static str> {
-        label(version, self.id()?)
+    #[must_use]
+    pub fn label(&self) -> Option<&'static str> {
+        names::label(self.version, self.id()?)
     }
 
-    /// The part of `packet` that the entry stands for; a close stands for
-    /// none. `packet` is the data that was walked, or a packet that holds it,
-    /// and its first byte is at `offset`.
-    pub fn part<'p>(&self, packet: &'p [u8], offset: u64) -> Result<&'p [u8], Refusal> {
-        let range = self.range().ok_or(Refusal::Outside)?;
+    /// The part of `packet` that the entry stands for. `packet` is the data
+    /// that was walked, or a packet that holds it, and its first byte is at
+    /// `offset`.
+    ///
+    /// # Errors
+    ///
+    /// The range does not lie in the packet, or the entry is a close, which
+    /// has none.
+    pub fn part<'p>(&self, packet: &'p [u8], offset: u64) -> Result<&'p [u8], OutsidePacket> {
+        let range = self.range().ok_or(OutsidePacket)?;
         let place = |at: u32| usize::try_from(u64::from(at).checked_sub(offset)?).ok();
         let part = place(range.start)
             .zip(place(range.end))
             .and_then(|(start, end)| packet.get(start..end));
-        part.ok_or(Refusal::Outside)
+        part.ok_or(OutsidePacket)
+    }
+}
+
+impl fmt::Debug for Entry<'_> {
+    fn fmt(&self, f: &mut fmt::Formatter<'_>) -> fmt::Result {
+        f.debug_struct("Entry")
+            .field("kind", &self.kind())
+            .field("id", &self.id())
+            .field("name", &self.name())
+            .field("range", &self.range())
+            .field("value", &self.value())
+            .finish()
     }
 }
 
 /// Goes through the entries of a strip.
 #[derive(Clone, Debug)]
+#[must_use = "an iterator does nothing until it is asked for entries"]
 pub struct Entries<'a> {
+    version: Version,
     rest: &'a [u8],
 }
 
 impl<'a> Entries<'a> {
-    /// The bytes are a walk's, and so whole entries from end to end.
-    pub(crate) fn of(bytes: &'a [u8]) -> Entries<'a> {
-        Entries { rest: bytes }
+    /// The bytes are whole entries from end to end.
+    pub(crate) fn of(version: Version, bytes: &'a [u8]) -> Entries<'a> {
+        Entries {
+            version,
+            rest: bytes,
+        }
     }
 
-    fn take<const N: usize>(&mut self) -> [u8; N] {
-        let (front, rest) = self.rest.split_first_chunk().expect("a whole entry");
+    /// What is not read yet.
+    pub(crate) fn rest(&self) -> &'a [u8] {
+        self.rest
+    }
+
+    /// The next bytes, as many as the caller's kind has. The one test of an
+    /// entry.
+    #[inline]
+    fn take<const N: usize>(&mut self) -> Option<&'a [u8; N]> {
+        let (bytes, rest) = self.rest.split_first_chunk()?;
         self.rest = rest;
-        *front
+        Some(bytes)
     }
 }
 
-impl Iterator for Entries<'_> {
-    type Item = Entry;
+impl<'a> Iterator for Entries<'a> {
+    type Item = Entry<'a>;
 
-    fn next(&mut self) -> Option<Entry> {
-        if self.rest.is_empty() {
-            return None;
-        }
-        let [kind] = self.take();
-        let kind = kind_of(kind);
-        if kind == Kind::Close {
-            return Some(Entry {
-                kind,
-                id: 0,
-                range: 0..0,
-                value: None,
-            });
-        }
-        let [id] = self.take();
-        let start = u32::from_be_bytes(self.take());
-        let end = u32::from_be_bytes(self.take());
-        let value = match kind {
-            Kind::U8 => Some(Value::U8(u8::from_be_bytes(self.take()))),
-            Kind::U16 => Some(Value::U16(u16::from_be_bytes(self.take()))),
-            Kind::U32 => Some(Value::U32(u32::from_be_bytes(self.take()))),
-            Kind::Ipv4 => Some(Value::Ipv4(self.take::<4>().into())),
-            Kind::Ipv6 => Some(Value::Ipv6(self.take::<16>().into())),
-            Kind::Open | Kind::Close | Kind::Bytes => None,
+    // Each kind adds its own length: so the processor goes on with the next
+    // entry before this one's kind is read, where a table of lengths would
+    // make it wait.
+    #[inline]
+    fn next(&mut self) -> Option<Entry<'a>> {
+        let view = match *self.rest.first()? {
+            1 => View::Open(self.take()?),
+            2 => {
+                self.take::<1>()?;
+                View::Close
+            }
+            3 => View::U8(self.take()?),
+            4 => View::U16(self.take()?),
+            5 => View::U32(self.take()?),
+            6 => View::Ipv4(self.take()?),
+            7 => View::Ipv6(self.take()?),
+            8 => View::Bytes(self.take()?),
+            _ => return None,
         };
         Some(Entry {
-            kind,
-            id,
-            range: start..end,
-            value,
+            version: self.version,
+            view,
         })
     }
 }
 
-fn kind_of(byte: u8) -> Kind {
-    match byte {
-        1 => Kind::Open,
-        2 => Kind::Close,
-        3 => Kind::U8,
-        4 => Kind::U16,
-        5 => Kind::U32,
-        6 => Kind::Ipv4,
-        7 => Kind::Ipv6,
-        8 => Kind::Bytes,
-        _ => panic!("a walk writes no entry of kind {byte}"),
-    }
-}
-
-#[cfg(test)]
-mod tests {
-    use super::*;
-
-    fn bytes(range: Range<u32>) -> Entry {
-        Entry {
-            kind: Kind::Bytes,
-            id: 25,
-            range,
-            value: None,
-        }
-    }
-
-    /// The requirements' condition of refusal 9, at every small range, offset and
-    /// packet length.
-    #[test]
-    fn part_by_its_condition() {
-        let packet: Vec<u8> = (0..5).collect();
-        for (offset, length) in (0..7).flat_map(|o| (0..=5).map(move |n| (o, n))) {
-            for (start, end) in (0..14).flat_map(|s| (0..14).map(move |e| (s, e))) {
-                let outside = start < offset || end < start || end > offset + length;
-                let part = bytes(start..end).part(&packet[..length as usize], offset.into());
-                match part {
-                    Ok(part) => {
-                        let first = (start - offset) as u8;
-                        assert!(!outside);
-                        assert!(part.iter().copied().eq(first..first + (end - start) as u8));
-                    }
-                    Err(refusal) => assert_eq!((outside, refusal), (true, Refusal::Outside)),
-                }
-            }
-        }
-    }
-
-    /// An offset near the largest number makes no sum wrap.
-    #[test]
-    fn part_at_large_offsets() {
-        let packet = [7; 20];
-        for offset in [u64::from(u32::MAX) + 1, u64::MAX - 10, u64::MAX] {
-            assert_eq!(bytes(0..4).part(&packet, offset), Err(Refusal::Outside));
-        }
-        let offset = u64::from(u32::MAX) - 10;
-        let last = bytes(u32::MAX - 10..u32::MAX);
-        assert_eq!(last.part(&packet, offset), Ok(&packet[..10]));
-    }
-}
+// A step that gives nothing leaves the rest as it is.
+impl FusedIterator for Entries<'_> {}

@@ -3,39 +3,43 @@
 //! Copied from the tables of `v2_lsa.rs` and `v3_lsa.rs`; a test compares
 //! them with what the reference pushes.
 
+use crate::Version::{self, V2, V3};
+
 /// A field's name for programs, and its label for a person.
 type Row = (&'static str, &'static str);
 
 /// The name of a field, as programs write it.
-pub fn name(version: u8, id: u8) -> Option<&'static str> {
+#[must_use]
+pub fn name(version: Version, id: u8) -> Option<&'static str> {
     row(version, id).map(|row| row.0)
 }
 
 /// The name of a field, as a person reads it.
-pub fn label(version: u8, id: u8) -> Option<&'static str> {
+#[must_use]
+pub fn label(version: Version, id: u8) -> Option<&'static str> {
     row(version, id).map(|row| row.1)
 }
 
 /// The row of the requirements' id.
-fn row(version: u8, id: u8) -> Option<Row> {
+fn row(version: Version, id: u8) -> Option<Row> {
     let at = |table: &'static [Row], first: u8| table.get((id - first) as usize).copied();
     match (version, id) {
-        (2, 0..64) => at(&V2_LSA, 0),
-        (2, 64..80) => at(&V2_LINK, 64),
-        (2, 80..96) => at(&V2_TOS, 80),
-        (2, 96) => Some(("link", "Link")),
-        (2, 97) => Some(("tos_metric", "TOS Metric")),
-        (3, 0..64) => at(&V3_LSA, 0),
-        (3, 64..80) => at(&V3_LINK, 64),
-        (3, 80..96) => at(&V3_PREFIX, 80),
-        (3, 96) => Some(("link", "Interface")),
-        (3, 97) => Some(("prefix_entry", "Prefix")),
-        (2 | 3, 98) => Some(("attached_router", "Attached Router")),
-        (2 | 3, 112) => Some(("lsa_header", "LSA Header")),
-        (2 | 3, 113) => Some(("lsa", "LSA")),
+        (V2, 0..64) => at(&V2_LSA, 0),
+        (V2, 64..80) => at(&V2_LINK, 64),
+        (V2, 80..96) => at(&V2_TOS, 80),
+        (V2, 96) => Some(("link", "Link")),
+        (V2, 97) => Some(("tos_metric", "TOS Metric")),
+        (V3, 0..64) => at(&V3_LSA, 0),
+        (V3, 64..80) => at(&V3_LINK, 64),
+        (V3, 80..96) => at(&V3_PREFIX, 80),
+        (V3, 96) => Some(("link", "Interface")),
+        (V3, 97) => Some(("prefix_entry", "Prefix")),
+        (V2 | V3, 98) => Some(("attached_router", "Attached Router")),
+        (V2 | V3, 112) => Some(("lsa_header", "LSA Header")),
+        (V2 | V3, 113) => Some(("lsa", "LSA")),
         // The reference takes the outer array from its callers, which call it
         // by this name in an update and `lsa_headers` in a header list.
-        (2 | 3, 114) => Some(("lsas", "LSAs")),
+        (V2 | V3, 114) => Some(("lsas", "LSAs")),
         _ => None,
     }
 }

@@ -7,7 +7,7 @@ use std::fs;
 use std::path::Path;
 
 use inputs::{Class, Input};
-use ospf_strip::{Buffer, Kind};
+use ospf_strip::{Buffer, Kind, Version};
 use walk::run;
 
 /// Classes that together have every field at every length it may have.
@@ -79,12 +79,13 @@ fn names_are_the_references() {
 
 #[test]
 fn names_are_this_crates() {
-    for version in [2, 3] {
+    for version in [Version::V2, Version::V3] {
         let ours = (0..=255).filter_map(|id| {
             let name = ospf_strip::name(version, id)?.to_string();
             Some((id, (name, ospf_strip::label(version, id)?.to_string())))
         });
-        assert_eq!(documented(version), ours.collect(), "version {version}");
+        let documented = documented(version.number());
+        assert_eq!(documented, ours.collect(), "version {version}");
     }
 }
 
@@ -156,7 +157,7 @@ fn worked_strip() {
         whole.extend(bytes);
     }
     let mut buffer = Buffer::new();
-    let strip = buffer.lsa_headers(2, &data, 0).expect("accepted");
+    let strip = buffer.lsa_headers(Version::V2, &data, 0).expect("accepted");
     assert_eq!(whole, strip.bytes());
     assert!(part.contains(&format!("The answer is {}:", whole.len())));
 }

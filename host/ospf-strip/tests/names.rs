@@ -3,6 +3,7 @@
 use std::collections::BTreeMap;
 
 use inputs::Class;
+use ospf_strip::Version;
 
 /// All ids that the reference pushes for structured LSAs, and their names.
 fn reference(version: u8) -> BTreeMap<u8, (&'static str, &'static str)> {
@@ -18,8 +19,8 @@ fn reference(version: u8) -> BTreeMap<u8, (&'static str, &'static str)> {
     names
 }
 
-fn check(version: u8) {
-    let reference = reference(version);
+fn check(version: Version) {
+    let reference = reference(version.number());
     for id in 0..=255 {
         let ours = ospf_strip::name(version, id).zip(ospf_strip::label(version, id));
         assert_eq!(
@@ -32,16 +33,16 @@ fn check(version: u8) {
 
 #[test]
 fn version_2() {
-    check(2);
+    check(Version::V2);
 }
 
 #[test]
 fn version_3() {
-    check(3);
+    check(Version::V3);
 }
 
 #[test]
 fn no_other_version() {
-    assert!((0..=255).all(|id| ospf_strip::name(1, id).is_none()));
-    assert!((0..=255).all(|id| ospf_strip::name(4, id).is_none()));
+    let versions = (0..=255).filter_map(|number| Version::try_from(number).ok());
+    assert!(versions.eq([Version::V2, Version::V3]));
 }

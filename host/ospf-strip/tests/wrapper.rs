@@ -3,10 +3,11 @@
 mod lines;
 mod walk;
 
-use inputs::Class;
+use inputs::{Class, Input};
 use lines::line;
 use listing::hex;
-use ospf_strip::{Buffer, Kind, Refusal, walks};
+use oracle::Walk;
+use ospf_strip::{Buffer, Kind, OutsidePacket, Refusal, Strip, Version, exports};
 use walk::run;
 
 /// Entries read back and written again by another program are the strip.
@@ -32,7 +33,11 @@ fn entries_are_the_strip() {
 fn buffer_grows_and_is_used_again() {
     let mut used = Buffer::new();
     let long = vec![0; 2_000];
-    let length = used.lsa_headers(2, &long, 0).unwrap().bytes().len();
+    let length = used
+        .lsa_headers(Version::V2, &long, 0)
+        .unwrap()
+        .bytes()
+        .len();
     assert_eq!(length, 11 + 100 * 111);
     inputs::of_class(Class::Structured, 3, 5, &mut |input| {
         let mut fresh = Buffer::new();
@@ -40,44 +45,130 @@ fn buffer_grows_and_is_used_again() {
     });
 }
 
+/// Each refusal of the exports, by its number.
 #[test]
 fn refusals_by_number() {
     let mut buffer = Buffer::new();
     let long = vec![0; 65_536];
-    let cases = [
-        (buffer.lsa_headers(1, &[], 0).unwrap_err(), 1),
-        (buffer.lsa_headers(2, &long, 0).unwrap_err(), 2),
+    let old = [0x0E, 0x11].iter().copied().chain([0; 18]);
+    let old: Vec<u8> = old.collect();
+    let new = [0; 20];
+    let (v2, v3) = (Version::V2, Version::V3);
+    let refusals = [
+        (Version::try_from(1).unwrap_err(), Refusal::Version, 1),
         (
-            buffer.lsu_lsas(3, &[0; 4], 0, 4_294_901_761).unwrap_err(),
+            buffer.lsa_headers(v2, &long, 0).unwrap_err(),
+            Refusal::TooLong,
+            2,
+        ),
+        (
+            buffer.lsu_lsas(v3, &[0; 4], 0, 4_294_901_761).unwrap_err(),
+            Refusal::Offset,
             3,
         ),
-        (buffer.lsu_lsas(3, &[0; 3], 0, 0).unwrap_err(), 4),
-        (buffer.lsa(2, &[0; 19], 0).unwrap_err(), 4),
+        (
+            buffer.lsu_lsas(v3, &[0; 3], 0, 0).unwrap_err(),
+            Refusal::TooShort,
+            4,
+        ),
+        (
+            buffer.lsa(v2, &[0; 19], 0).unwrap_err(),
+            Refusal::TooShort,
+            4,
+        ),
+        (
+            ospf_strip::lsa_headers(v2, &[], 0, &mut [0; 10]).unwrap_err(),
+            Refusal::Room { needed: 11 },
+            5,
+        ),
+        (
+            ospf_strip::same_prefix(128, &[], 129, &[]).unwrap_err(),
+            Refusal::PrefixLength,
+            10,
+        ),
+        (
+            ospf_strip::newness(v2, &new, &old).unwrap_err(),
+            Refusal::Age,
+            11,
+        ),
     ];
-    for (refusal, number) in cases {
-        assert_eq!(refusal.number(), number);
-        assert_eq!(Refusal::from_number(number), Some(refusal));
+    for (found, refusal, number) in refusals {
+        assert_eq!((found, found.number()), (refusal, number));
+        assert!(!found.to_string().is_empty());
     }
-    assert_eq!(Refusal::from_number(5), Some(Refusal::Room));
-    assert_eq!(Refusal::from_number(0), None);
 }
 
-/// The packed answers of the three functions at the boundary.
+/// The packed answers of the walks at the boundary.
 #[test]
 fn packed_answers() {
     let mut strip = [0xA5; 11];
-    assert_eq!(
-        walks::ospf_lsa_headers(2, &[], 0, &mut strip[..10]),
-        0x05_0000_000B
-    );
+    let refused = exports::ospf_lsa_headers(2, &[], 0, &mut strip[..10]);
+    assert_eq!(refused, 0x05_0000_000B);
     assert_eq!(strip, [0xA5; 11]);
-    assert_eq!(walks::ospf_lsa_headers(2, &[], 0, &mut strip), 11);
+    assert_eq!(exports::ospf_lsa_headers(2, &[], 0, &mut strip), 11);
     assert_eq!(strip[..2], [1, 114]);
-    assert_eq!(
-        walks::ospf_lsu_lsas(9, &[0; 4], 1, 0, &mut strip),
-        0x01_0000_0000
-    );
-    assert_eq!(walks::ospf_lsa(3, &[0; 19], 0, &mut strip), 0x04_0000_0000);
+    let refused = exports::ospf_lsu_lsas(9, &[0; 4], 1, 0, &mut strip);
+    assert_eq!(refused, 0x01_0000_0000);
+    let refused = exports::ospf_lsa(3, &[0; 19], 0, &mut strip);
+    assert_eq!(refused, 0x04_0000_0000);
+}
+
+/// A walk into lent bytes writes what one into a buffer does, and refuses
+/// bytes that are one too few.
+#[test]
+fn lent_bytes() {
+    let mut buffer = Buffer::new();
+    let mut strips = 0;
+    inputs::of_class(Class::Structured, 6, 20, &mut |input| {
+        let Ok(expected) = run(&mut buffer, &input) else {
+            return;
+        };
+        let needed = expected.bytes().len();
+        let mut lent = vec![0xA5; needed + 3];
+        let refusal = into(&input, &mut lent[..needed - 1]).unwrap_err();
+        assert_eq!(refusal, Refusal::Room { needed });
+        assert!(lent.iter().all(|&byte| byte == 0xA5));
+        assert_eq!(into(&input, &mut lent), Ok(expected));
+        assert_eq!(lent[needed..], [0xA5; 3]);
+        strips += 1;
+    });
+    assert!(strips > 1_000, "{strips}");
+}
+
+/// An input through the walks that take lent bytes.
+fn into<'s>(input: &Input, strip: &'s mut [u8]) -> Result<Strip<'s>, Refusal> {
+    let (data, offset) = (&input.data, input.offset);
+    let version = Version::try_from(input.version)?;
+    match input.walk {
+        Walk::Headers => ospf_strip::lsa_headers(version, data, offset, strip),
+        Walk::Update => ospf_strip::lsu_lsas(version, data, input.count, offset, strip),
+        Walk::Lsa => ospf_strip::lsa(version, data, offset, strip),
+    }
+}
+
+/// Records and tail are those of the reference.
+#[test]
+fn records_and_tail() {
+    let mut buffer = Buffer::new();
+    let (mut many, mut tails) = (0, 0);
+    for class in [
+        Class::Structured,
+        Class::Truncated,
+        Class::Damaged,
+        Class::Count,
+    ] {
+        inputs::of_class(class, 7, 20, &mut |input| {
+            let Ok(strip) = run(&mut buffer, &input) else {
+                return;
+            };
+            let answer = input.call().run().answer(usize::MAX);
+            let found = (strip.records() as u32, strip.tail() as u32);
+            assert_eq!(found, (answer.records, answer.tail), "{input:?}");
+            many += usize::from(answer.records > 1);
+            tails += usize::from(answer.tail > 0);
+        });
+    }
+    assert!(many > 1_000 && tails > 1_000, "{many} {tails}");
 }
 
 /// A range gives the bytes of the packet, whatever the offset; a range that
@@ -88,16 +179,16 @@ fn part_of_the_packet() {
     let mut buffer = Buffer::new();
     for offset in [0, 24, 4_294_901_760] {
         let raw = buffer
-            .lsa(2, &body, offset)
+            .lsa(Version::V2, &body, offset)
             .unwrap()
             .entries()
             .last()
             .unwrap();
-        assert_eq!((raw.kind(), raw.name(2)), (Kind::Bytes, Some("body")));
-        assert_eq!(raw.label(2), Some("LSA Body"));
+        assert_eq!((raw.kind(), raw.name()), (Kind::Bytes, Some("body")));
+        assert_eq!(raw.label(), Some("LSA Body"));
         assert_eq!(raw.part(&body, offset), Ok(&[0xBE, 0xEF][..]));
-        assert_eq!(raw.part(&body[..21], offset), Err(Refusal::Outside));
-        assert_eq!(raw.part(&body, offset + 21), Err(Refusal::Outside));
+        assert_eq!(raw.part(&body[..21], offset), Err(OutsidePacket));
+        assert_eq!(raw.part(&body, offset + 21), Err(OutsidePacket));
     }
 }
 
@@ -126,7 +217,7 @@ fn parts_of_accepted_walks() {
                     assert_eq!(entry.part(&packet, base), Ok(bytes));
                     assert_eq!(entry.part(&packet[..end], base), Ok(bytes));
                     let cut = entry.part(&packet[..end - 1], base);
-                    assert_eq!(cut, Err(Refusal::Outside));
+                    assert_eq!(cut, Err(OutsidePacket));
                     held += 1;
                 }
                 parts += 1;

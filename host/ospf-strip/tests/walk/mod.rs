@@ -2,10 +2,11 @@
 
 use inputs::Input;
 use oracle::Walk;
-use ospf_strip::{Buffer, Refusal, Strip};
+use ospf_strip::{Buffer, Refusal, Strip, Version};
 
 pub fn run<'b>(buffer: &'b mut Buffer, input: &Input) -> Result<Strip<'b>, Refusal> {
-    let (version, data, offset) = (input.version, &input.data, input.offset);
+    let (data, offset) = (&input.data, input.offset);
+    let version = Version::try_from(input.version)?;
     match input.walk {
         Walk::Headers => buffer.lsa_headers(version, data, offset),
         Walk::Update => buffer.lsu_lsas(version, data, input.count, offset),
