@@ -1,0 +1,99 @@
+//! The inline reader of include/ospf.h, compiled by the C compiler from
+//! host/c/reader.c: for tests, and for the benchmark of reading in C.
+
+/// What stands at a place of a strip.
+#[derive(Clone, Copy, Debug, PartialEq, Eq)]
+pub enum Step {
+    Entry(Entry),
+    /// The strip's end.
+    End,
+    /// The number of the refusal.
+    Refused(u8),
+}
+
+/// One entry, and the place after it. What a kind does not have is 0.
+#[derive(Clone, Copy, Debug, PartialEq, Eq)]
+pub struct Entry {
+    pub kind: u8,
+    pub id: u8,
+    pub start: u32,
+    pub end: u32,
+    /// An IPv6 address in two halves, the higher first; any other value in
+    /// the second.
+    pub value: (u64, u64),
+    pub next: usize,
+}
+
+/// The functions of host/c/reader.c.
+mod library {
+    /// `reader_step` of host/c/reader.c.
+    #[repr(C)]
+    #[derive(Default)]
+    pub struct Step {
+        pub high: u64,
+        pub low: u64,
+        pub next: usize,
+        pub start: u32,
+        pub end: u32,
+        pub kind: u8,
+        pub refused: u8,
+        pub id: u8,
+    }
+
+    unsafe extern "C" {
+        pub unsafe fn reader_step_at(
+            strip: *const u8,
+            length: usize,
+            place: usize,
+            step: *mut Step,
+        );
+        pub unsafe fn reader_read_all(strip: *const u8, length: usize) -> u64;
+        pub unsafe fn reader_visit_all(strip: *const u8, length: usize) -> u64;
+    }
+}
+
+/// The step at a place, by `ospf_step` and the inline readers. Where there is
+/// no entry the next place is the strip's length; this panics if it is not.
+pub fn step(strip: &[u8], place: usize) -> Step {
+    let mut step = library::Step::default();
+    // SAFETY: the function reads at most the `strip.len()` bytes of `strip`,
+    // whatever they are and whatever the place, and writes `step`, which has
+    // the C struct's fields in their order. Both live for the call and do not
+    // overlap, and it keeps neither pointer.
+    unsafe { library::reader_step_at(strip.as_ptr(), strip.len(), place, &mut step) };
+    match (step.kind, step.refused) {
+        (0, refused) => {
+            assert_eq!(step.next, strip.len(), "the next place without an entry");
+            if refused == 0 {
+                Step::End
+            } else {
+                Step::Refused(refused)
+            }
+        }
+        (kind, refused) => {
+            assert_eq!(refused, 0, "an entry that is refused");
+            Step::Entry(Entry {
+                kind,
+                id: step.id,
+                start: step.start,
+                end: step.end,
+                value: (step.high, step.low),
+                next: step.next,
+            })
+        }
+    }
+}
+
+/// The sum of every id, start, end and value of a strip, modulo 2^64, by a
+/// loop over `ospf_step`; where an entry is refused, of those before it.
+pub fn read_all(strip: &[u8]) -> u64 {
+    // SAFETY: the function reads at most the `strip.len()` bytes of `strip`,
+    // whatever they are; they live for the call, and it keeps no pointer.
+    unsafe { library::reader_read_all(strip.as_ptr(), strip.len()) }
+}
+
+/// The same sum by `ospf_visit`.
+pub fn visit_all(strip: &[u8]) -> u64 {
+    // SAFETY: as in `read_all`.
+    unsafe { library::reader_visit_all(strip.as_ptr(), strip.len()) }
+}
