@@ -14,7 +14,7 @@ typedef struct reader_step {
 
 void reader_step_at(const uint8_t *strip, size_t length, size_t place, reader_step *step);
 uint64_t reader_read_all(const uint8_t *strip, size_t length);
-uint64_t reader_visit_all(const uint8_t *strip, size_t length);
+uint64_t reader_visit_all(const uint8_t *strip, size_t length, uint8_t *refused);
 
 static uint64_t be64(const uint8_t *at) { return (uint64_t)ospf_be32(at) << 32 | ospf_be32(at + 4); }
 
@@ -103,11 +103,11 @@ static void add_ipv6(void *context, uint8_t id, uint32_t start, uint32_t end, co
     *sum += (uint64_t)id + start + end + be64(address) + be64(address + 8);
 }
 
-/* The same sum by ospf_visit. */
-uint64_t reader_visit_all(const uint8_t *strip, size_t length)
+/* The same sum by ospf_visit, and what that answers. */
+uint64_t reader_visit_all(const uint8_t *strip, size_t length, uint8_t *refused)
 {
     static const ospf_visitor add = {add_range, add_nothing, add_number, add_ipv6, add_range};
     uint64_t sum = 0;
-    ospf_visit(strip, length, &add, &sum);
+    *refused = ospf_visit(strip, length, &add, &sum);
     return sum;
 }

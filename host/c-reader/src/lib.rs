@@ -48,7 +48,7 @@ mod library {
             step: *mut Step,
         );
         pub unsafe fn reader_read_all(strip: *const u8, length: usize) -> u64;
-        pub unsafe fn reader_visit_all(strip: *const u8, length: usize) -> u64;
+        pub unsafe fn reader_visit_all(strip: *const u8, length: usize, refused: *mut u8) -> u64;
     }
 }
 
@@ -92,8 +92,13 @@ pub fn read_all(strip: &[u8]) -> u64 {
     unsafe { library::reader_read_all(strip.as_ptr(), strip.len()) }
 }
 
-/// The same sum by `ospf_visit`.
-pub fn visit_all(strip: &[u8]) -> u64 {
-    // SAFETY: as in `read_all`.
-    unsafe { library::reader_visit_all(strip.as_ptr(), strip.len()) }
+/// The same sum by `ospf_visit`, and the number of the refusal that ended it
+/// or 0.
+pub fn visit_all(strip: &[u8]) -> (u64, u8) {
+    let mut refused = 0;
+    // SAFETY: the function reads at most the `strip.len()` bytes of `strip`,
+    // whatever they are, and writes the one byte `refused`. Both live for the
+    // call and do not overlap, and it keeps neither pointer.
+    let sum = unsafe { library::reader_visit_all(strip.as_ptr(), strip.len(), &mut refused) };
+    (sum, refused)
 }
