@@ -1,10 +1,10 @@
 /*
- * The reader of include/ospf.h for programs that are not in C: one step with all that it reads, and the two ways of
- * reading a whole strip, by ospf_step and by ospf_visit. host/c-reader has these for Rust.
+ * The reader of include/ospf.h for programs that are not in C: one step with all that it reads, what ospf_visit hands
+ * over, and the sum over a whole strip by ospf_step and by ospf_visit. host/c-reader has these for Rust.
  */
 #include "ospf.h"
 
-/* All that can be read of the entry at a place. What it does not have is 0. */
+/* All that can be read of an entry. What it does not have is 0. */
 typedef struct reader_step {
     uint64_t high, low; /* an IPv6 address in two halves; any other value in low */
     size_t next;
@@ -13,6 +13,7 @@ typedef struct reader_step {
 } reader_step;
 
 void reader_step_at(const uint8_t *strip, size_t length, size_t place, reader_step *step);
+uint8_t reader_visit(const uint8_t *strip, size_t length, reader_step *steps, size_t *count);
 uint64_t reader_read_all(const uint8_t *strip, size_t length);
 uint64_t reader_visit_all(const uint8_t *strip, size_t length, uint8_t *refused);
 
@@ -47,6 +48,54 @@ void reader_step_at(const uint8_t *strip, size_t length, size_t place, reader_st
         step->end = ospf_end(entry);
         read_value(entry, step);
     }
+}
+
+/* Where the visitor below writes the next entry. */
+typedef struct visited {
+    reader_step *steps;
+    size_t count;
+} visited;
+
+static reader_step *visit_range(visited *visited, uint8_t kind, uint8_t id, uint32_t start, uint32_t end)
+{
+    const reader_step step = {0, 0, 0, start, end, kind, 0, id};
+    reader_step *at = &visited->steps[visited->count++];
+    *at = step;
+    return at;
+}
+
+static void visit_open(void *context, uint8_t id, uint32_t start, uint32_t end)
+{
+    visit_range(context, OSPF_KIND_OPEN, id, start, end);
+}
+
+static void visit_close(void *context) { visit_range(context, OSPF_KIND_CLOSE, 0, 0, 0); }
+
+static void visit_number(void *context, uint8_t kind, uint8_t id, uint32_t start, uint32_t end, uint32_t value)
+{
+    visit_range(context, kind, id, start, end)->low = value;
+}
+
+static void visit_ipv6(void *context, uint8_t id, uint32_t start, uint32_t end, const uint8_t *address)
+{
+    reader_step *step = visit_range(context, OSPF_KIND_IPV6, id, start, end);
+    step->high = be64(address);
+    step->low = be64(address + 8);
+}
+
+static void visit_bytes(void *context, uint8_t id, uint32_t start, uint32_t end)
+{
+    visit_range(context, OSPF_KIND_BYTES, id, start, end);
+}
+
+/* What ospf_visit hands over, and its answer. There is room for as many steps as the strip has bytes. */
+uint8_t reader_visit(const uint8_t *strip, size_t length, reader_step *steps, size_t *count)
+{
+    static const ospf_visitor visitor = {visit_open, visit_close, visit_number, visit_ipv6, visit_bytes};
+    visited visited = {steps, 0};
+    uint8_t refused = ospf_visit(strip, length, &visitor, &visited);
+    *count = visited.count;
+    return refused;
 }
 
 /* The sum of every id, start, end and value of a strip, modulo 2^64; where an entry is refused, of those before it. */

@@ -28,7 +28,7 @@ pub struct Entry {
 mod library {
     /// `reader_step` of host/c/reader.c.
     #[repr(C)]
-    #[derive(Default)]
+    #[derive(Clone, Default)]
     pub struct Step {
         pub high: u64,
         pub low: u64,
@@ -47,6 +47,12 @@ mod library {
             place: usize,
             step: *mut Step,
         );
+        pub unsafe fn reader_visit(
+            strip: *const u8,
+            length: usize,
+            steps: *mut Step,
+            count: *mut usize,
+        ) -> u8;
         pub unsafe fn reader_read_all(strip: *const u8, length: usize) -> u64;
         pub unsafe fn reader_visit_all(strip: *const u8, length: usize, refused: *mut u8) -> u64;
     }
@@ -70,18 +76,37 @@ pub fn step(strip: &[u8], place: usize) -> Step {
                 Step::Refused(refused)
             }
         }
-        (kind, refused) => {
+        (_, refused) => {
             assert_eq!(refused, 0, "an entry that is refused");
-            Step::Entry(Entry {
-                kind,
-                id: step.id,
-                start: step.start,
-                end: step.end,
-                value: (step.high, step.low),
-                next: step.next,
-            })
+            Step::Entry(entry(&step))
         }
     }
+}
+
+fn entry(step: &library::Step) -> Entry {
+    Entry {
+        kind: step.kind,
+        id: step.id,
+        start: step.start,
+        end: step.end,
+        value: (step.high, step.low),
+        next: step.next,
+    }
+}
+
+/// The entries that `ospf_visit` hands over, with a next place of 0, and the
+/// number of the refusal that ended it or 0.
+pub fn visit(strip: &[u8]) -> (Vec<Entry>, u8) {
+    let mut steps = vec![library::Step::default(); strip.len()];
+    let mut count = 0;
+    let (to, counted) = (steps.as_mut_ptr(), &mut count);
+    // SAFETY: the function reads at most the `strip.len()` bytes of `strip`,
+    // whatever they are. It writes `count`, and a step for each entry; `steps`
+    // has one for each byte, an entry has at least one byte, and a step has
+    // the C struct's fields in their order. All three live for the call and do
+    // not overlap, and it keeps no pointer.
+    let refused = unsafe { library::reader_visit(strip.as_ptr(), strip.len(), to, counted) };
+    (steps[..count].iter().map(entry).collect(), refused)
 }
 
 /// The sum of every id, start, end and value of a strip, modulo 2^64, by a
@@ -92,7 +117,7 @@ pub fn read_all(strip: &[u8]) -> u64 {
     unsafe { library::reader_read_all(strip.as_ptr(), strip.len()) }
 }
 
-/// The same sum by `ospf_visit`, and the number of the refusal that ended it
+/// That sum by `ospf_visit`, and the number of the refusal that ended it
 /// or 0.
 pub fn visit_all(strip: &[u8]) -> (u64, u8) {
     let mut refused = 0;

@@ -1,6 +1,6 @@
 //! The reader of include/ospf.h against strips written by `listing`.
 
-use c_reader::{Entry, Step, read_all, step, visit_all};
+use c_reader::{Entry, Step, read_all, step, visit, visit_all};
 
 /// A kind's entry as it is listed, and as it must be read, with a next place
 /// as at place 0.
@@ -68,11 +68,7 @@ fn every_cut() {
             assert_eq!(step(&bytes[..length], 0), Step::Refused(8), "{bytes:?}");
             let strip = [&[2; 40], &bytes[..length]].concat();
             assert_eq!(step(&strip, 40), Step::Refused(8), "{bytes:?}");
-            assert_eq!(
-                (read_all(&strip), visit_all(&strip)),
-                (0, (0, 8)),
-                "{bytes:?}"
-            );
+            check_whole(&strip, &[listed(2, 0, 0, 0).1; 40], 8);
         }
     }
 }
@@ -83,7 +79,7 @@ fn unknown_kinds() {
         for after in [0, 1, 12, 25, 26, 60] {
             let strip = [vec![2, kind], vec![1; after]].concat();
             assert_eq!(step(&strip, 1), Step::Refused(7), "{kind}");
-            assert_eq!((read_all(&strip), visit_all(&strip)), (0, (0, 7)), "{kind}");
+            check_whole(&strip, &[listed(2, 0, 0, 0).1], 7);
         }
     }
 }
@@ -101,6 +97,16 @@ fn the_end_and_beyond() {
     assert_eq!((read_all(&[]), visit_all(&[])), (0, (0, 0)));
 }
 
+/// Both ways of reading a whole strip: its entries, and the refusal after the
+/// last of them or 0.
+fn check_whole(strip: &[u8], entries: &[Entry], refused: u8) {
+    let handed: Vec<Entry> = entries.iter().map(|e| Entry { next: 0, ..*e }).collect();
+    assert_eq!(visit(strip), (handed, refused), "{strip:?}");
+    let sum = entries.iter().map(sum_of).fold(0, u64::wrapping_add);
+    assert_eq!(read_all(strip), sum, "{strip:?}");
+    assert_eq!(visit_all(strip), (sum, refused), "{strip:?}");
+}
+
 /// Three entries in every order of kinds, then closes, from none to more than
 /// the longest entry has bytes: so the last entries are read near the end and
 /// far from it. Then the same with a last byte that is no kind.
@@ -111,21 +117,14 @@ fn whole_strips() {
     for order in orders {
         let listed = order.map(|kind| listed(kind, kind * 31, 0xFFFF_FF00, 0xFFFF_FF04));
         let lines = listed.each_ref().map(|(line, _)| line.as_str()).join("\n");
-        let sums = listed.iter().map(|(_, entry)| sum_of(entry));
-        let sum = sums.fold(0, u64::wrapping_add);
         for closes in [0, 1, 24, 25, 26, 27, 60] {
             let mut strip = [listing::strip(&lines), vec![2; closes]].concat();
-            assert_eq!(
-                (read_all(&strip), visit_all(&strip)),
-                (sum, (sum, 0)),
-                "{lines}"
-            );
+            let entries = listed.iter().map(|(_, entry)| *entry);
+            let entries = entries.chain((0..closes).map(|_| self::listed(2, 0, 0, 0).1));
+            let entries: Vec<Entry> = entries.collect();
+            check_whole(&strip, &entries, 0);
             strip.push(9);
-            assert_eq!(
-                (read_all(&strip), visit_all(&strip)),
-                (sum, (sum, 7)),
-                "{lines}"
-            );
+            check_whole(&strip, &entries, 7);
         }
     }
 }
@@ -138,12 +137,13 @@ fn strips_of_the_walks() {
             let needed = bench::PORT.run(&input, &mut []) as u32;
             let mut strip = vec![0; needed as usize];
             assert_eq!(bench::PORT.run(&input, &mut strip), needed.into());
-            let (mut place, mut sum) = (0, 0_u64);
+            let (mut place, mut entries) = (0, Vec::new());
             while let Step::Entry(entry) = step(&strip, place) {
-                (place, sum) = (entry.next, sum.wrapping_add(sum_of(&entry)));
+                place = entry.next;
+                entries.push(entry);
             }
             assert_eq!(step(&strip, place), Step::End, "{}", kind.name());
-            assert_eq!((read_all(&strip), visit_all(&strip)), (sum, (sum, 0)));
+            check_whole(&strip, &entries, 0);
         }
     }
 }
