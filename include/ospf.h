@@ -1,6 +1,6 @@
 /*
  * The LSAs of OSPFv2 and OSPFv3 packets as a strip of fields: the exports of libospf.a, which `rt staticlib ospf`
- * writes to target/staticlib; and, inline, a reader of strips. docs/STRIP.md has the strip's format and the fields' ids.
+ * writes to target/staticlib; and, inline, a reader of strips. docs/STRIP.md has the format of strips and all ids.
  *
  * What a caller must know of the exports:
  * - A slice is a pointer and a length. The pointer is not null, whatever the length. Data and strip do not overlap.
@@ -49,8 +49,9 @@ uint64_t ospf_newness(uint8_t version, const uint8_t *first, size_t first_len, c
                       size_t second_len);
 
 /*
- * Whether two prefixes are the same. An address is the bytes given, then zeros to 16; more than 16 are cut. So a
- * prefix's octets can be handed over as they lie in a packet. Refused: OSPF_REFUSED_PREFIX_LENGTH, either above 128.
+ * Whether two prefixes are the same: their lengths in bits, and all 16 bytes of their addresses. An address is the
+ * bytes given, then zeros to 16; more than 16 are cut. So a prefix's octets can be handed over as they lie in a packet.
+ * Refused: OSPF_REFUSED_PREFIX_LENGTH, either length above 128.
  */
 uint64_t ospf_prefix_compare(uint8_t first_length, const uint8_t *first, size_t first_len, uint8_t second_length,
                              const uint8_t *second, size_t second_len);
