@@ -41,17 +41,14 @@ static void check(int ok, const char *what)
 static uint64_t refused(uint8_t number, uint32_t length) { return (uint64_t)number << 32 | length; }
 
 /* At every place the inline step says what the proved one does. */
-static void check_steps(const char *what, const uint8_t *strip, size_t length)
+static int same_steps(const uint8_t *strip, size_t length)
 {
     for (size_t place = 0; place <= length + 1; place++) {
         ospf_entry entry = ospf_step(strip, length, place);
         uint32_t bytes = entry.kind == 0 ? 0 : (uint32_t)(entry.next - place);
-        if (ospf_strip_step(strip, length, place) != refused(entry.refused, bytes)) {
-            check(0, what);
-            return;
-        }
+        if (ospf_strip_step(strip, length, place) != refused(entry.refused, bytes)) return 0;
     }
-    check(1, what);
+    return 1;
 }
 
 /* The sum of the values that are numbers, so that a strip is read to its end. */
@@ -80,7 +77,7 @@ static void check_strip(const char *what, uint64_t answer, const uint8_t *strip,
     check(ospf_number(answer) == 0, what);
     check(ospf_length(answer) == length && answer == length, what);
     check(length <= room && memcmp(strip, expected, length) == 0, what);
-    check_steps(what, strip, length);
+    check(same_steps(strip, length), what);
     for (size_t i = length; i < room; i++) {
         if (strip[i] != 0xA5) {
             check(0, what);
@@ -185,13 +182,15 @@ static void prefixes(void)
 static void steps(void)
 {
     uint8_t strip[40];
+    int same = 1;
     memset(strip, 0xA5, sizeof strip);
     for (unsigned kind = 0; kind < 256; kind++) {
         strip[0] = (uint8_t)kind;
         for (size_t length = 0; length <= sizeof strip; length++) {
-            check_steps("a step", strip, length);
+            same &= same_steps(strip, length);
         }
     }
+    check(same, "every step");
     check(ospf_strip_step(strip, 4, SIZE_MAX) == refused(OSPF_REFUSED_PLACE, 0), "the largest place");
 }
 
