@@ -335,17 +335,17 @@ static inline const char *ospf_name(uint8_t version, uint8_t id)
 /*
  * A strip read in C. An ordinary loop over the entries:
  *
- *     ospf_entry entry;
- *     for (size_t place = 0; place < length; place = entry.next) {
- *         entry = ospf_step(strip, length, place);
+ *     ospf_entry entry = ospf_begin();
+ *     while (entry.next < length) {
+ *         entry = ospf_next(strip, length, entry);
  *         switch (entry.kind) {
- *         case OSPF_KIND_OPEN: ... ospf_id(entry), ospf_start(entry), ospf_end(entry) ...
- *         case OSPF_KIND_U16: ... ospf_u16(entry) ...
+ *         case OSPF_KIND_OPEN: ... ospf_id(entry), ospf_start(entry), ospf_end(entry) ...; break;
+ *         case OSPF_KIND_U16: ... ospf_u16(entry) ...; break;
  *         default: ... entry.refused ...
  *         }
  *     }
  *
- * ospf_visit below calls a function for each entry instead, and is the quicker of the two.
+ * ospf_step says what stands at any place. ospf_visit calls a function for each entry, and is quicker than the loop.
  */
 
 /* What stands at a place of a strip. */
@@ -364,19 +364,20 @@ typedef struct ospf_entry {
 #define OSPF_ALWAYS_INLINE
 #endif
 
-/* An arm of ospf_step. Each adds a constant of its own: from a table the next place would wait for what was read. */
-#define OSPF_ARM(name)                                 \
-    if (OSPF_UNLIKELY(kind == OSPF_KIND_##name)) {     \
-        next = place + 1 + OSPF_BODY_##name;           \
-        if (OSPF_UNLIKELY(next > length)) goto cut;    \
-        entry.at = strip + place;                      \
-        entry.next = next;                             \
-        entry.kind = OSPF_KIND_##name;                 \
-        return entry;                                  \
+/* An arm of the two functions below. Each adds a constant of its own: from a table, the next place would wait for the
+   byte that was read, and a branch that is foretold does not. */
+#define OSPF_ARM(name)                              \
+    if (OSPF_UNLIKELY(kind == OSPF_KIND_##name)) {  \
+        next = place + 1 + OSPF_BODY_##name;        \
+        if (OSPF_UNLIKELY(next > length)) goto cut; \
+        entry.at = strip + place;                   \
+        entry.next = next;                          \
+        entry.kind = OSPF_KIND_##name;              \
+        return entry;                               \
     }
 
-/* The step at a place. Only the place that equals the length is the strip's end. */
-static inline ospf_entry ospf_step(const uint8_t *strip, size_t length, size_t place)
+/* What stands at a place. Only the place that equals the length is the strip's end. */
+static inline OSPF_ALWAYS_INLINE ospf_entry ospf_step(const uint8_t *strip, size_t length, size_t place)
 {
     ospf_entry entry = {0, length, 0, 0};
     size_t next;
@@ -386,19 +387,56 @@ static inline ospf_entry ospf_step(const uint8_t *strip, size_t length, size_t p
         return entry;
     }
     kind = strip[place];
-    OSPF_ARM(U16)
-    OSPF_ARM(U8)
-    OSPF_ARM(IPV4)
-    OSPF_ARM(U32)
-    OSPF_ARM(CLOSE)
-    OSPF_ARM(OPEN)
-    OSPF_ARM(IPV6)
-    OSPF_ARM(BYTES)
+    OSPF_ARM(U16) OSPF_ARM(U8) OSPF_ARM(IPV4) OSPF_ARM(U32)
+    OSPF_ARM(CLOSE) OSPF_ARM(OPEN) OSPF_ARM(IPV6) OSPF_ARM(BYTES)
     entry.refused = OSPF_REFUSED_KIND;
     return entry;
 cut:
     entry.refused = OSPF_REFUSED_CUT;
     return entry;
+}
+
+/* Before the first entry: what ospf_next goes on from. */
+static inline ospf_entry ospf_begin(void)
+{
+    ospf_entry entry = {0, 0, 0, 0};
+    return entry;
+}
+
+/*
+ * What stands after an entry of the same strip: ospf_step at the entry's next place. It tries first what often follows
+ * the entry's kind. In a loop that switches on the kind, gcc then goes from each case to the next with one branch.
+ */
+static inline OSPF_ALWAYS_INLINE ospf_entry ospf_next(const uint8_t *strip, size_t length, ospf_entry before)
+{
+#if defined(__clang__)
+    return ospf_step(strip, length, before.next);
+#else
+    ospf_entry entry = {0, length, 0, 0};
+    size_t next, place = before.next;
+    uint8_t kind;
+    if (OSPF_UNLIKELY(place >= length)) return ospf_step(strip, length, place);
+    kind = strip[place];
+    switch (before.kind) {
+    case OSPF_KIND_OPEN:
+    case OSPF_KIND_BYTES: OSPF_ARM(U16) OSPF_ARM(U8) OSPF_ARM(IPV4) OSPF_ARM(OPEN) break;
+    case OSPF_KIND_CLOSE: OSPF_ARM(OPEN) OSPF_ARM(CLOSE) break;
+    case OSPF_KIND_U8: OSPF_ARM(U8) OSPF_ARM(U16) OSPF_ARM(U32) OSPF_ARM(IPV4) break;
+    case OSPF_KIND_U16:
+        OSPF_ARM(U16) OSPF_ARM(U32) OSPF_ARM(CLOSE) OSPF_ARM(U8) OSPF_ARM(IPV4) OSPF_ARM(IPV6) OSPF_ARM(OPEN) break;
+    case OSPF_KIND_U32:
+    case OSPF_KIND_IPV4: OSPF_ARM(IPV4) OSPF_ARM(U32) OSPF_ARM(U16) OSPF_ARM(CLOSE) OSPF_ARM(U8) break;
+    case OSPF_KIND_IPV6: OSPF_ARM(CLOSE) break;
+    default: break;
+    }
+    OSPF_ARM(U16) OSPF_ARM(U8) OSPF_ARM(IPV4) OSPF_ARM(U32)
+    OSPF_ARM(CLOSE) OSPF_ARM(OPEN) OSPF_ARM(IPV6) OSPF_ARM(BYTES)
+    entry.refused = OSPF_REFUSED_KIND;
+    return entry;
+cut:
+    entry.refused = OSPF_REFUSED_CUT;
+    return entry;
+#endif
 }
 
 /* Numbers as a strip has them, the highest byte first; a compiler makes one load of each. */
@@ -500,16 +538,14 @@ open:
 close:
     OSPF_VISIT(CLOSE) OSPF_THEN(OPEN, open) OSPF_THEN(CLOSE, close) goto any;
 u8:
-    OSPF_VISIT(U8) OSPF_THEN(U8, u8) OSPF_THEN(U16, u16) OSPF_THEN(IPV4, ipv4) OSPF_THEN(U32, u32) goto any;
+    OSPF_VISIT(U8) OSPF_THEN(U8, u8) OSPF_THEN(U16, u16) OSPF_THEN(U32, u32) OSPF_THEN(IPV4, ipv4) goto any;
 u16:
-    OSPF_VISIT(U16) OSPF_THEN(U16, u16) OSPF_THEN(U8, u8) OSPF_THEN(CLOSE, close) OSPF_THEN(U32, u32)
-    OSPF_THEN(IPV6, ipv6) goto any;
+    OSPF_VISIT(U16) OSPF_THEN(U16, u16) OSPF_THEN(U32, u32) OSPF_THEN(CLOSE, close) OSPF_THEN(U8, u8)
+    OSPF_THEN(IPV4, ipv4) OSPF_THEN(IPV6, ipv6) OSPF_THEN(OPEN, open) goto any;
 u32:
-    OSPF_VISIT(U32) OSPF_THEN(U16, u16) OSPF_THEN(U32, u32) OSPF_THEN(IPV4, ipv4) OSPF_THEN(CLOSE, close)
-    OSPF_THEN(U8, u8) goto any;
+    OSPF_VISIT(U32) OSPF_THEN(IPV4, ipv4) OSPF_THEN(U16, u16) OSPF_THEN(CLOSE, close) OSPF_THEN(U32, u32) goto any;
 ipv4:
-    OSPF_VISIT(IPV4) OSPF_THEN(IPV4, ipv4) OSPF_THEN(U32, u32) OSPF_THEN(CLOSE, close) OSPF_THEN(U8, u8)
-    OSPF_THEN(U16, u16) goto any;
+    OSPF_VISIT(IPV4) OSPF_THEN(IPV4, ipv4) OSPF_THEN(U32, u32) OSPF_THEN(CLOSE, close) OSPF_THEN(U8, u8) goto any;
 ipv6:
     OSPF_VISIT(IPV6) OSPF_THEN(CLOSE, close) goto any;
 bytes:

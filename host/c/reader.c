@@ -1,6 +1,6 @@
 /*
- * The reader of include/ospf.h for programs that are not in C: one step with all that it reads, what ospf_visit hands
- * over, and the sum over a whole strip by ospf_step and by ospf_visit. host/c-reader has these for Rust.
+ * The reader of include/ospf.h for programs that are not in C: one step with all that it reads; and a whole strip, by
+ * ospf_next and by ospf_visit, as its entries and as a sum. host/c-reader has these for Rust.
  */
 #include "ospf.h"
 
@@ -13,6 +13,7 @@ typedef struct reader_step {
 } reader_step;
 
 void reader_step_at(const uint8_t *strip, size_t length, size_t place, reader_step *step);
+uint8_t reader_next(const uint8_t *strip, size_t length, reader_step *steps, size_t *count);
 uint8_t reader_visit(const uint8_t *strip, size_t length, reader_step *steps, size_t *count);
 uint64_t reader_read_all(const uint8_t *strip, size_t length);
 uint64_t reader_visit_all(const uint8_t *strip, size_t length, uint8_t *refused);
@@ -34,10 +35,9 @@ static void read_value(ospf_entry entry, reader_step *step)
     }
 }
 
-void reader_step_at(const uint8_t *strip, size_t length, size_t place, reader_step *step)
+static void read_entry(ospf_entry entry, reader_step *step)
 {
     const reader_step nothing = {0, 0, 0, 0, 0, 0, 0, 0};
-    ospf_entry entry = ospf_step(strip, length, place);
     *step = nothing;
     step->next = entry.next;
     step->kind = entry.kind;
@@ -47,6 +47,23 @@ void reader_step_at(const uint8_t *strip, size_t length, size_t place, reader_st
         step->start = ospf_start(entry);
         step->end = ospf_end(entry);
         read_value(entry, step);
+    }
+}
+
+void reader_step_at(const uint8_t *strip, size_t length, size_t place, reader_step *step)
+{
+    read_entry(ospf_step(strip, length, place), step);
+}
+
+/* What ospf_next gives, and the refusal that ends it or 0. There is room for as many steps as the strip has bytes. */
+uint8_t reader_next(const uint8_t *strip, size_t length, reader_step *steps, size_t *count)
+{
+    ospf_entry entry = ospf_begin();
+    *count = 0;
+    for (;;) {
+        entry = ospf_next(strip, length, entry);
+        if (entry.kind == 0) return entry.refused;
+        read_entry(entry, &steps[(*count)++]);
     }
 }
 
@@ -89,6 +106,7 @@ static void visit_bytes(void *context, uint8_t id, uint32_t start, uint32_t end)
 }
 
 /* What ospf_visit hands over, and its answer. There is room for as many steps as the strip has bytes. */
+uint8_t reader_next(const uint8_t *strip, size_t length, reader_step *steps, size_t *count);
 uint8_t reader_visit(const uint8_t *strip, size_t length, reader_step *steps, size_t *count)
 {
     static const ospf_visitor visitor = {visit_open, visit_close, visit_number, visit_ipv6, visit_bytes};
@@ -102,9 +120,9 @@ uint8_t reader_visit(const uint8_t *strip, size_t length, reader_step *steps, si
 uint64_t reader_read_all(const uint8_t *strip, size_t length)
 {
     uint64_t sum = 0;
-    ospf_entry entry;
-    for (size_t place = 0; place < length; place = entry.next) {
-        entry = ospf_step(strip, length, place);
+    ospf_entry entry = ospf_begin();
+    while (entry.next < length) {
+        entry = ospf_next(strip, length, entry);
         switch (entry.kind) {
         case OSPF_KIND_CLOSE: break;
         case OSPF_KIND_OPEN:

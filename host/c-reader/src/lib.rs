@@ -47,6 +47,12 @@ mod library {
             place: usize,
             step: *mut Step,
         );
+        pub unsafe fn reader_next(
+            strip: *const u8,
+            length: usize,
+            steps: *mut Step,
+            count: *mut usize,
+        ) -> u8;
         pub unsafe fn reader_visit(
             strip: *const u8,
             length: usize,
@@ -94,23 +100,35 @@ fn entry(step: &library::Step) -> Entry {
     }
 }
 
+/// The entries that `ospf_next` gives one after another, and the number of the
+/// refusal that ended it or 0.
+pub fn next_all(strip: &[u8]) -> (Vec<Entry>, u8) {
+    entries(strip, library::reader_next)
+}
+
 /// The entries that `ospf_visit` hands over, with a next place of 0, and the
 /// number of the refusal that ended it or 0.
 pub fn visit(strip: &[u8]) -> (Vec<Entry>, u8) {
+    entries(strip, library::reader_visit)
+}
+
+type ReadAll = unsafe extern "C" fn(*const u8, usize, *mut library::Step, *mut usize) -> u8;
+
+/// The entries by `reader_next` or `reader_visit`, and its answer.
+fn entries(strip: &[u8], read: ReadAll) -> (Vec<Entry>, u8) {
     let mut steps = vec![library::Step::default(); strip.len()];
     let mut count = 0;
-    let (to, counted) = (steps.as_mut_ptr(), &mut count);
     // SAFETY: the function reads at most the `strip.len()` bytes of `strip`,
     // whatever they are. It writes `count`, and a step for each entry; `steps`
     // has one for each byte, an entry has at least one byte, and a step has
     // the C struct's fields in their order. All three live for the call and do
     // not overlap, and it keeps no pointer.
-    let refused = unsafe { library::reader_visit(strip.as_ptr(), strip.len(), to, counted) };
+    let refused = unsafe { read(strip.as_ptr(), strip.len(), steps.as_mut_ptr(), &mut count) };
     (steps[..count].iter().map(entry).collect(), refused)
 }
 
-/// The sum of every id, start, end and value of a strip, modulo 2^64, by a
-/// loop over `ospf_step`; where an entry is refused, of those before it.
+/// The sum of every id, start, end and value of a strip, modulo 2^64, by an
+/// ordinary loop over `ospf_next`; where an entry is refused, of those before it.
 pub fn read_all(strip: &[u8]) -> u64 {
     // SAFETY: the function reads at most the `strip.len()` bytes of `strip`,
     // whatever they are; they live for the call, and it keeps no pointer.

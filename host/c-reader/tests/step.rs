@@ -1,6 +1,6 @@
 //! The reader of include/ospf.h against strips written by `listing`.
 
-use c_reader::{Entry, Step, read_all, step, visit, visit_all};
+use c_reader::{Entry, Step, next_all, read_all, step, visit, visit_all};
 
 /// A kind's entry as it is listed, and as it must be read, with a next place
 /// as at place 0.
@@ -97,9 +97,18 @@ fn the_end_and_beyond() {
     assert_eq!((read_all(&[]), visit_all(&[])), (0, (0, 0)));
 }
 
-/// Both ways of reading a whole strip: its entries, and the refusal after the
-/// last of them or 0.
+/// Both ways of reading a whole strip: its entries, each with any next place,
+/// and the refusal after the last of them or 0.
 fn check_whole(strip: &[u8], entries: &[Entry], refused: u8) {
+    let mut place = 0;
+    let placed = entries.iter().map(|entry| {
+        place += 1 + listing::KINDS[usize::from(entry.kind) - 1].1;
+        Entry {
+            next: place,
+            ..*entry
+        }
+    });
+    assert_eq!(next_all(strip), (placed.collect(), refused), "{strip:?}");
     let handed: Vec<Entry> = entries.iter().map(|e| Entry { next: 0, ..*e }).collect();
     assert_eq!(visit(strip), (handed, refused), "{strip:?}");
     let sum = entries.iter().map(sum_of).fold(0, u64::wrapping_add);
