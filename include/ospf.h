@@ -333,19 +333,20 @@ static inline const char *ospf_name(uint8_t version, uint8_t id)
 /* Generated up to here. */
 
 /*
- * A strip read in C. An ordinary loop over the entries:
+ * A strip read in C. An ordinary loop over the entries, which ends at the strip's end or where an entry is refused:
  *
  *     ospf_entry entry = ospf_begin();
- *     while (entry.next < length) {
- *         entry = ospf_next(strip, length, entry);
+ *     while ((entry = ospf_next(strip, length, entry)).kind != 0) {
  *         switch (entry.kind) {
  *         case OSPF_KIND_OPEN: ... ospf_id(entry), ospf_start(entry), ospf_end(entry) ...; break;
  *         case OSPF_KIND_U16: ... ospf_u16(entry) ...; break;
- *         default: ... entry.refused ...
+ *         ...
  *         }
  *     }
+ *     if (entry.refused != 0) ...
  *
- * ospf_step says what stands at any place. ospf_visit calls a function for each entry, and is quicker than the loop.
+ * ospf_step says what stands at any place. ospf_visit calls a function for each entry; with gcc it is a little quicker
+ * than the loop, with clang twice as quick.
  */
 
 /* What stands at a place of a strip. */
@@ -364,23 +365,25 @@ typedef struct ospf_entry {
 #define OSPF_ALWAYS_INLINE
 #endif
 
-/* An arm of the two functions below. Each adds a constant of its own: from a table, the next place would wait for the
-   byte that was read, and a branch that is foretold does not. */
-#define OSPF_ARM(name)                              \
-    if (OSPF_UNLIKELY(kind == OSPF_KIND_##name)) {  \
-        next = place + 1 + OSPF_BODY_##name;        \
-        if (OSPF_UNLIKELY(next > length)) goto cut; \
-        entry.at = strip + place;                   \
-        entry.next = next;                          \
-        entry.kind = OSPF_KIND_##name;              \
-        return entry;                               \
+/* An entry of this kind stands at the place. Each kind adds a constant of its own: from a table, the next place would
+   wait for the byte that was read, and a branch that is foretold does not. */
+#define OSPF_FOUND(name)                 \
+    entry.at = strip + place;            \
+    entry.next = place + 1 + OSPF_BODY_##name; \
+    entry.kind = OSPF_KIND_##name;       \
+    return entry;
+
+/* An arm of ospf_step. */
+#define OSPF_ARM(name)                                                             \
+    if (OSPF_UNLIKELY(kind == OSPF_KIND_##name)) {                                 \
+        if (OSPF_UNLIKELY(length - place < 1 + OSPF_BODY_##name)) goto cut;        \
+        OSPF_FOUND(name)                                                           \
     }
 
 /* What stands at a place. Only the place that equals the length is the strip's end. */
 static inline OSPF_ALWAYS_INLINE ospf_entry ospf_step(const uint8_t *strip, size_t length, size_t place)
 {
     ospf_entry entry = {0, length, 0, 0};
-    size_t next;
     uint8_t kind;
     if (OSPF_UNLIKELY(place >= length)) {
         entry.refused = place > length ? OSPF_REFUSED_PLACE : 0;
@@ -403,41 +406,46 @@ static inline ospf_entry ospf_begin(void)
     return entry;
 }
 
+/* An arm of ospf_next. */
+#define OSPF_THEN(name)                            \
+    if (OSPF_UNLIKELY(kind == OSPF_KIND_##name)) { \
+        OSPF_FOUND(name)                           \
+    }
+
 /*
- * What stands after an entry of the same strip: ospf_step at the entry's next place. It tries first what often follows
- * the entry's kind. In a loop that switches on the kind, gcc then goes from each case to the next with one branch.
+ * What stands after an entry of the same strip: ospf_step at the entry's next place. As long as any entry would fit it
+ * tries first what often follows the entry's kind. In a loop that switches on the kind, gcc then goes from each case to
+ * the next one by one branch.
  */
 static inline OSPF_ALWAYS_INLINE ospf_entry ospf_next(const uint8_t *strip, size_t length, ospf_entry before)
 {
-#if defined(__clang__)
-    return ospf_step(strip, length, before.next);
-#else
     ospf_entry entry = {0, length, 0, 0};
-    size_t next, place = before.next;
+    size_t place = before.next;
     uint8_t kind;
-    if (OSPF_UNLIKELY(place >= length)) return ospf_step(strip, length, place);
+    if (OSPF_UNLIKELY((ptrdiff_t)place > (ptrdiff_t)length - (1 + OSPF_BODY_IPV6))) {
+        return ospf_step(strip, length, place);
+    }
     kind = strip[place];
     switch (before.kind) {
     case OSPF_KIND_OPEN:
-    case OSPF_KIND_BYTES: OSPF_ARM(U16) OSPF_ARM(U8) OSPF_ARM(IPV4) OSPF_ARM(OPEN) break;
-    case OSPF_KIND_CLOSE: OSPF_ARM(OPEN) OSPF_ARM(CLOSE) break;
-    case OSPF_KIND_U8: OSPF_ARM(U8) OSPF_ARM(U16) OSPF_ARM(U32) OSPF_ARM(IPV4) break;
-    case OSPF_KIND_U16:
-        OSPF_ARM(U16) OSPF_ARM(U32) OSPF_ARM(CLOSE) OSPF_ARM(U8) OSPF_ARM(IPV4) OSPF_ARM(IPV6) OSPF_ARM(OPEN) break;
+    case OSPF_KIND_BYTES: OSPF_THEN(U16) OSPF_THEN(U8) OSPF_THEN(IPV4) OSPF_THEN(OPEN) break;
+    case OSPF_KIND_CLOSE: OSPF_THEN(OPEN) OSPF_THEN(CLOSE) break;
+    case OSPF_KIND_U8: OSPF_THEN(U8) OSPF_THEN(U16) OSPF_THEN(U32) OSPF_THEN(IPV4) break;
+    case OSPF_KIND_U16: OSPF_THEN(U16) OSPF_THEN(CLOSE) OSPF_THEN(U32) OSPF_THEN(OPEN) OSPF_THEN(U8) break;
     case OSPF_KIND_U32:
-    case OSPF_KIND_IPV4: OSPF_ARM(IPV4) OSPF_ARM(U32) OSPF_ARM(U16) OSPF_ARM(CLOSE) OSPF_ARM(U8) break;
-    case OSPF_KIND_IPV6: OSPF_ARM(CLOSE) break;
+    case OSPF_KIND_IPV4: OSPF_THEN(CLOSE) OSPF_THEN(IPV4) OSPF_THEN(U32) OSPF_THEN(U16) OSPF_THEN(U8) break;
+    case OSPF_KIND_IPV6: OSPF_THEN(CLOSE) break;
     default: break;
     }
-    OSPF_ARM(U16) OSPF_ARM(U8) OSPF_ARM(IPV4) OSPF_ARM(U32)
-    OSPF_ARM(CLOSE) OSPF_ARM(OPEN) OSPF_ARM(IPV6) OSPF_ARM(BYTES)
+    OSPF_THEN(U16) OSPF_THEN(U8) OSPF_THEN(IPV4) OSPF_THEN(U32)
+    OSPF_THEN(CLOSE) OSPF_THEN(OPEN) OSPF_THEN(IPV6) OSPF_THEN(BYTES)
     entry.refused = OSPF_REFUSED_KIND;
     return entry;
-cut:
-    entry.refused = OSPF_REFUSED_CUT;
-    return entry;
-#endif
 }
+
+#undef OSPF_THEN
+#undef OSPF_ARM
+#undef OSPF_FOUND
 
 /* Numbers as a strip has them, the highest byte first; a compiler makes one load of each. */
 static inline uint16_t ospf_be16(const uint8_t *at) { return (uint16_t)(at[0] << 8 | at[1]); }
@@ -561,7 +569,6 @@ rest:
 
 #undef OSPF_THEN
 #undef OSPF_VISIT
-#undef OSPF_ARM
 #undef OSPF_ALWAYS_INLINE
 #undef OSPF_UNLIKELY
 

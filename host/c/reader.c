@@ -60,11 +60,8 @@ uint8_t reader_next(const uint8_t *strip, size_t length, reader_step *steps, siz
 {
     ospf_entry entry = ospf_begin();
     *count = 0;
-    for (;;) {
-        entry = ospf_next(strip, length, entry);
-        if (entry.kind == 0) return entry.refused;
-        read_entry(entry, &steps[(*count)++]);
-    }
+    while ((entry = ospf_next(strip, length, entry)).kind != 0) read_entry(entry, &steps[(*count)++]);
+    return entry.refused;
 }
 
 /* Where the visitor below writes the next entry. */
@@ -121,8 +118,7 @@ uint64_t reader_read_all(const uint8_t *strip, size_t length)
 {
     uint64_t sum = 0;
     ospf_entry entry = ospf_begin();
-    while (entry.next < length) {
-        entry = ospf_next(strip, length, entry);
+    while ((entry = ospf_next(strip, length, entry)).kind != 0) {
         switch (entry.kind) {
         case OSPF_KIND_CLOSE: break;
         case OSPF_KIND_OPEN:
@@ -143,7 +139,6 @@ uint64_t reader_read_all(const uint8_t *strip, size_t length)
             sum += (uint64_t)ospf_id(entry) + ospf_start(entry) + ospf_end(entry);
             sum += be64(ospf_ipv6(entry)) + be64(ospf_ipv6(entry) + 8);
             break;
-        default: return sum;
         }
     }
     return sum;
