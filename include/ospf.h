@@ -345,8 +345,7 @@ static inline const char *ospf_name(uint8_t version, uint8_t id)
  *     }
  *     if (entry.refused != 0) ...
  *
- * ospf_step says what stands at any place. ospf_visit calls a function for each entry; with gcc it is a little quicker
- * than the loop, with clang twice as quick.
+ * ospf_step says what stands at any place.
  */
 
 /* What stands at a place of a strip. */
@@ -365,19 +364,19 @@ typedef struct ospf_entry {
 #define OSPF_ALWAYS_INLINE
 #endif
 
-/* An entry of this kind stands at the place. Each kind adds a constant of its own: from a table, the next place would
-   wait for the byte that was read, and a branch that is foretold does not. */
-#define OSPF_FOUND(name)                 \
-    entry.at = strip + place;            \
+/* An entry of this kind stands at the place. Each kind adds a constant of its own: with a table of lengths the next
+   place would wait for the byte of the kind to be read, and after a predicted branch it does not. */
+#define OSPF_FOUND(name)                       \
+    entry.at = strip + place;                  \
     entry.next = place + 1 + OSPF_BODY_##name; \
-    entry.kind = OSPF_KIND_##name;       \
+    entry.kind = OSPF_KIND_##name;             \
     return entry;
 
 /* An arm of ospf_step. */
-#define OSPF_ARM(name)                                                             \
-    if (OSPF_UNLIKELY(kind == OSPF_KIND_##name)) {                                 \
-        if (OSPF_UNLIKELY(length - place < 1 + OSPF_BODY_##name)) goto cut;        \
-        OSPF_FOUND(name)                                                           \
+#define OSPF_ARM(name)                                                      \
+    if (OSPF_UNLIKELY(kind == OSPF_KIND_##name)) {                          \
+        if (OSPF_UNLIKELY(length - place < 1 + OSPF_BODY_##name)) goto cut; \
+        OSPF_FOUND(name)                                                    \
     }
 
 /* What stands at a place. Only the place that equals the length is the strip's end. */
@@ -413,9 +412,9 @@ static inline ospf_entry ospf_begin(void)
     }
 
 /*
- * What stands after an entry of the same strip: ospf_step at the entry's next place. As long as any entry would fit it
- * tries first what often follows the entry's kind. In a loop that switches on the kind, gcc then goes from each case to
- * the next one by one branch.
+ * What stands after an entry of the same strip: ospf_step at the entry's next place. Where an entry of any kind would
+ * fit, it first tries the kinds that often follow the entry's own. In a loop that switches on the kind, gcc then goes
+ * from one case to the next by one branch.
  */
 static inline OSPF_ALWAYS_INLINE ospf_entry ospf_next(const uint8_t *strip, size_t length, ospf_entry before)
 {
@@ -431,7 +430,9 @@ static inline OSPF_ALWAYS_INLINE ospf_entry ospf_next(const uint8_t *strip, size
     case OSPF_KIND_BYTES: OSPF_THEN(U16) OSPF_THEN(U8) OSPF_THEN(IPV4) OSPF_THEN(OPEN) break;
     case OSPF_KIND_CLOSE: OSPF_THEN(OPEN) OSPF_THEN(CLOSE) break;
     case OSPF_KIND_U8: OSPF_THEN(U8) OSPF_THEN(U16) OSPF_THEN(U32) OSPF_THEN(IPV4) break;
-    case OSPF_KIND_U16: OSPF_THEN(U16) OSPF_THEN(CLOSE) OSPF_THEN(U32) OSPF_THEN(OPEN) OSPF_THEN(U8) break;
+    case OSPF_KIND_U16:
+        OSPF_THEN(U16) OSPF_THEN(CLOSE) OSPF_THEN(U32) OSPF_THEN(OPEN) OSPF_THEN(U8) OSPF_THEN(IPV4) OSPF_THEN(IPV6)
+        break;
     case OSPF_KIND_U32:
     case OSPF_KIND_IPV4: OSPF_THEN(CLOSE) OSPF_THEN(IPV4) OSPF_THEN(U32) OSPF_THEN(U16) OSPF_THEN(U8) break;
     case OSPF_KIND_IPV6: OSPF_THEN(CLOSE) break;
@@ -472,103 +473,6 @@ static inline uint32_t ospf_u32(ospf_entry entry) { return ospf_be32(entry.at + 
 /* The 16 bytes of the address, of OSPF_KIND_IPV6; they lie in the strip. */
 static inline const uint8_t *ospf_ipv6(ospf_entry entry) { return entry.at + 10; }
 
-/*
- * The functions that ospf_visit calls for entries, one for each sort. context is what ospf_visit was given. number is
- * called for OSPF_KIND_U8, _U16, _U32 and _IPV4, and kind says which.
- */
-typedef struct ospf_visitor {
-    void (*open)(void *context, uint8_t id, uint32_t start, uint32_t end);
-    void (*close)(void *context);
-    void (*number)(void *context, uint8_t kind, uint8_t id, uint32_t start, uint32_t end, uint32_t value);
-    void (*ipv6)(void *context, uint8_t id, uint32_t start, uint32_t end, const uint8_t *address);
-    void (*bytes)(void *context, uint8_t id, uint32_t start, uint32_t end);
-} ospf_visitor;
-
-/* Calls the visitor's function for an entry. */
-static inline OSPF_ALWAYS_INLINE void ospf_hand_over(ospf_entry entry, const ospf_visitor *visitor, void *context)
-{
-    const uint8_t *at = entry.at;
-    switch (entry.kind) {
-    case OSPF_KIND_OPEN: visitor->open(context, at[1], ospf_be32(at + 2), ospf_be32(at + 6)); break;
-    case OSPF_KIND_CLOSE: visitor->close(context); break;
-    case OSPF_KIND_IPV6: visitor->ipv6(context, at[1], ospf_be32(at + 2), ospf_be32(at + 6), at + 10); break;
-    case OSPF_KIND_BYTES: visitor->bytes(context, at[1], ospf_be32(at + 2), ospf_be32(at + 6)); break;
-    default:
-        visitor->number(context, entry.kind, at[1], ospf_be32(at + 2), ospf_be32(at + 6),
-                        entry.kind == OSPF_KIND_U8    ? ospf_u8(entry)
-                        : entry.kind == OSPF_KIND_U16 ? ospf_u16(entry)
-                                                      : ospf_u32(entry));
-    }
-}
-
-/* An arm of ospf_visit: an entry of this kind is at `at`, with enough bytes left for one of any kind. */
-#define OSPF_VISIT(name)                     \
-    entry.at = at;                           \
-    entry.kind = OSPF_KIND_##name;           \
-    ospf_hand_over(entry, visitor, context); \
-    at += 1 + OSPF_BODY_##name;              \
-    if (OSPF_UNLIKELY(at > last)) goto rest; \
-    kind = *at;
-
-/* What often follows, so that most entries take one branch. */
-#define OSPF_THEN(name, label) \
-    if (OSPF_UNLIKELY(kind == OSPF_KIND_##name)) goto label;
-
-/*
- * Calls the visitor's functions for the entries of a strip, in order, up to its end or the first place that ospf_step
- * refuses. Answers 0 at the end, else OSPF_REFUSED_KIND or _CUT. Where the visitor is a constant, a compiler puts short
- * functions in place of the calls.
- */
-static inline OSPF_ALWAYS_INLINE uint8_t ospf_visit(const uint8_t *strip, size_t length, const ospf_visitor *visitor,
-                                                    void *context)
-{
-    const size_t longest = 1 + OSPF_BODY_IPV6;
-    const uint8_t *at = strip, *last = strip + (length < longest ? 0 : length - longest);
-    ospf_entry entry = {0, 0, 0, 0};
-    size_t place;
-    uint8_t kind;
-    if (length < longest) goto rest;
-    kind = *at;
-any:
-    switch (kind) {
-    case OSPF_KIND_OPEN: goto open;
-    case OSPF_KIND_CLOSE: goto close;
-    case OSPF_KIND_U8: goto u8;
-    case OSPF_KIND_U16: goto u16;
-    case OSPF_KIND_U32: goto u32;
-    case OSPF_KIND_IPV4: goto ipv4;
-    case OSPF_KIND_IPV6: goto ipv6;
-    case OSPF_KIND_BYTES: goto bytes;
-    default: return OSPF_REFUSED_KIND;
-    }
-open:
-    OSPF_VISIT(OPEN) OSPF_THEN(U16, u16) OSPF_THEN(U8, u8) OSPF_THEN(IPV4, ipv4) OSPF_THEN(OPEN, open) goto any;
-close:
-    OSPF_VISIT(CLOSE) OSPF_THEN(OPEN, open) OSPF_THEN(CLOSE, close) goto any;
-u8:
-    OSPF_VISIT(U8) OSPF_THEN(U8, u8) OSPF_THEN(U16, u16) OSPF_THEN(U32, u32) OSPF_THEN(IPV4, ipv4) goto any;
-u16:
-    OSPF_VISIT(U16) OSPF_THEN(U16, u16) OSPF_THEN(U32, u32) OSPF_THEN(CLOSE, close) OSPF_THEN(U8, u8)
-    OSPF_THEN(IPV4, ipv4) OSPF_THEN(IPV6, ipv6) OSPF_THEN(OPEN, open) goto any;
-u32:
-    OSPF_VISIT(U32) OSPF_THEN(IPV4, ipv4) OSPF_THEN(U16, u16) OSPF_THEN(CLOSE, close) OSPF_THEN(U32, u32) goto any;
-ipv4:
-    OSPF_VISIT(IPV4) OSPF_THEN(IPV4, ipv4) OSPF_THEN(U32, u32) OSPF_THEN(CLOSE, close) OSPF_THEN(U8, u8) goto any;
-ipv6:
-    OSPF_VISIT(IPV6) OSPF_THEN(CLOSE, close) goto any;
-bytes:
-    OSPF_VISIT(BYTES) goto any;
-rest:
-    for (place = (size_t)(at - strip); place < length; place = entry.next) {
-        entry = ospf_step(strip, length, place);
-        if (entry.kind == 0) return entry.refused;
-        ospf_hand_over(entry, visitor, context);
-    }
-    return 0;
-}
-
-#undef OSPF_THEN
-#undef OSPF_VISIT
 #undef OSPF_ALWAYS_INLINE
 #undef OSPF_UNLIKELY
 

@@ -1,6 +1,6 @@
 /*
- * The reader of include/ospf.h for programs that are not in C: one step with all that it reads; and a whole strip, by
- * ospf_next and by ospf_visit, as its entries and as a sum. host/c-reader has these for Rust.
+ * The reader of include/ospf.h for programs that are not in C: one step with all that it reads, and a whole strip, as
+ * its entries and as a sum. host/c-reader has these for Rust.
  */
 #include "ospf.h"
 
@@ -14,9 +14,7 @@ typedef struct reader_step {
 
 void reader_step_at(const uint8_t *strip, size_t length, size_t place, reader_step *step);
 uint8_t reader_next(const uint8_t *strip, size_t length, reader_step *steps, size_t *count);
-uint8_t reader_visit(const uint8_t *strip, size_t length, reader_step *steps, size_t *count);
 uint64_t reader_read_all(const uint8_t *strip, size_t length);
-uint64_t reader_visit_all(const uint8_t *strip, size_t length, uint8_t *refused);
 
 static uint64_t be64(const uint8_t *at) { return (uint64_t)ospf_be32(at) << 32 | ospf_be32(at + 4); }
 
@@ -64,55 +62,6 @@ uint8_t reader_next(const uint8_t *strip, size_t length, reader_step *steps, siz
     return entry.refused;
 }
 
-/* Where the visitor below writes the next entry. */
-typedef struct visited {
-    reader_step *steps;
-    size_t count;
-} visited;
-
-static reader_step *visit_range(visited *visited, uint8_t kind, uint8_t id, uint32_t start, uint32_t end)
-{
-    const reader_step step = {0, 0, 0, start, end, kind, 0, id};
-    reader_step *at = &visited->steps[visited->count++];
-    *at = step;
-    return at;
-}
-
-static void visit_open(void *context, uint8_t id, uint32_t start, uint32_t end)
-{
-    visit_range(context, OSPF_KIND_OPEN, id, start, end);
-}
-
-static void visit_close(void *context) { visit_range(context, OSPF_KIND_CLOSE, 0, 0, 0); }
-
-static void visit_number(void *context, uint8_t kind, uint8_t id, uint32_t start, uint32_t end, uint32_t value)
-{
-    visit_range(context, kind, id, start, end)->low = value;
-}
-
-static void visit_ipv6(void *context, uint8_t id, uint32_t start, uint32_t end, const uint8_t *address)
-{
-    reader_step *step = visit_range(context, OSPF_KIND_IPV6, id, start, end);
-    step->high = be64(address);
-    step->low = be64(address + 8);
-}
-
-static void visit_bytes(void *context, uint8_t id, uint32_t start, uint32_t end)
-{
-    visit_range(context, OSPF_KIND_BYTES, id, start, end);
-}
-
-/* What ospf_visit hands over, and its answer. There is room for as many steps as the strip has bytes. */
-uint8_t reader_next(const uint8_t *strip, size_t length, reader_step *steps, size_t *count);
-uint8_t reader_visit(const uint8_t *strip, size_t length, reader_step *steps, size_t *count)
-{
-    static const ospf_visitor visitor = {visit_open, visit_close, visit_number, visit_ipv6, visit_bytes};
-    visited visited = {steps, 0};
-    uint8_t refused = ospf_visit(strip, length, &visitor, &visited);
-    *count = visited.count;
-    return refused;
-}
-
 /* The sum of every id, start, end and value of a strip, modulo 2^64; where an entry is refused, of those before it. */
 uint64_t reader_read_all(const uint8_t *strip, size_t length)
 {
@@ -141,35 +90,5 @@ uint64_t reader_read_all(const uint8_t *strip, size_t length)
             break;
         }
     }
-    return sum;
-}
-
-static void add_range(void *context, uint8_t id, uint32_t start, uint32_t end)
-{
-    uint64_t *sum = context;
-    *sum += (uint64_t)id + start + end;
-}
-
-static void add_nothing(void *context) { (void)context; }
-
-static void add_number(void *context, uint8_t kind, uint8_t id, uint32_t start, uint32_t end, uint32_t value)
-{
-    uint64_t *sum = context;
-    (void)kind;
-    *sum += (uint64_t)id + start + end + value;
-}
-
-static void add_ipv6(void *context, uint8_t id, uint32_t start, uint32_t end, const uint8_t *address)
-{
-    uint64_t *sum = context;
-    *sum += (uint64_t)id + start + end + be64(address) + be64(address + 8);
-}
-
-/* The same sum by ospf_visit, and what that answers. */
-uint64_t reader_visit_all(const uint8_t *strip, size_t length, uint8_t *refused)
-{
-    static const ospf_visitor add = {add_range, add_nothing, add_number, add_ipv6, add_range};
-    uint64_t sum = 0;
-    *refused = ospf_visit(strip, length, &add, &sum);
     return sum;
 }

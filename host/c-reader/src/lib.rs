@@ -53,14 +53,7 @@ mod library {
             steps: *mut Step,
             count: *mut usize,
         ) -> u8;
-        pub unsafe fn reader_visit(
-            strip: *const u8,
-            length: usize,
-            steps: *mut Step,
-            count: *mut usize,
-        ) -> u8;
         pub unsafe fn reader_read_all(strip: *const u8, length: usize) -> u64;
-        pub unsafe fn reader_visit_all(strip: *const u8, length: usize, refused: *mut u8) -> u64;
     }
 }
 
@@ -103,27 +96,15 @@ fn entry(step: &library::Step) -> Entry {
 /// The entries that `ospf_next` gives one after another, and the number of the
 /// refusal that ended it or 0.
 pub fn next_all(strip: &[u8]) -> (Vec<Entry>, u8) {
-    entries(strip, library::reader_next)
-}
-
-/// The entries that `ospf_visit` hands over, with a next place of 0, and the
-/// number of the refusal that ended it or 0.
-pub fn visit(strip: &[u8]) -> (Vec<Entry>, u8) {
-    entries(strip, library::reader_visit)
-}
-
-type ReadAll = unsafe extern "C" fn(*const u8, usize, *mut library::Step, *mut usize) -> u8;
-
-/// The entries by `reader_next` or `reader_visit`, and its answer.
-fn entries(strip: &[u8], read: ReadAll) -> (Vec<Entry>, u8) {
     let mut steps = vec![library::Step::default(); strip.len()];
     let mut count = 0;
+    let (to, counted) = (steps.as_mut_ptr(), &mut count);
     // SAFETY: the function reads at most the `strip.len()` bytes of `strip`,
     // whatever they are. It writes `count`, and a step for each entry; `steps`
     // has one for each byte, an entry has at least one byte, and a step has
     // the C struct's fields in their order. All three live for the call and do
     // not overlap, and it keeps no pointer.
-    let refused = unsafe { read(strip.as_ptr(), strip.len(), steps.as_mut_ptr(), &mut count) };
+    let refused = unsafe { library::reader_next(strip.as_ptr(), strip.len(), to, counted) };
     (steps[..count].iter().map(entry).collect(), refused)
 }
 
@@ -133,15 +114,4 @@ pub fn read_all(strip: &[u8]) -> u64 {
     // SAFETY: the function reads at most the `strip.len()` bytes of `strip`,
     // whatever they are; they live for the call, and it keeps no pointer.
     unsafe { library::reader_read_all(strip.as_ptr(), strip.len()) }
-}
-
-/// That sum by `ospf_visit`, and the number of the refusal that ended it
-/// or 0.
-pub fn visit_all(strip: &[u8]) -> (u64, u8) {
-    let mut refused = 0;
-    // SAFETY: the function reads at most the `strip.len()` bytes of `strip`,
-    // whatever they are, and writes the one byte `refused`. Both live for the
-    // call and do not overlap, and it keeps neither pointer.
-    let sum = unsafe { library::reader_visit_all(strip.as_ptr(), strip.len(), &mut refused) };
-    (sum, refused)
 }

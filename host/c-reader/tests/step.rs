@@ -1,6 +1,6 @@
 //! The reader of include/ospf.h against strips written by `listing`.
 
-use c_reader::{Entry, Step, next_all, read_all, step, visit, visit_all};
+use c_reader::{Entry, Step, next_all, read_all, step};
 
 /// A kind's entry as it is listed, and as it must be read, with a next place
 /// as at place 0.
@@ -94,11 +94,11 @@ fn the_end_and_beyond() {
             assert_eq!(step(strip, place), Step::Refused(6), "{place}");
         }
     }
-    assert_eq!((read_all(&[]), visit_all(&[])), (0, (0, 0)));
+    check_whole(&[], &[], 0);
 }
 
-/// Both ways of reading a whole strip: its entries, each with any next place,
-/// and the refusal after the last of them or 0.
+/// A whole strip is read as these entries, each with any next place, up to a
+/// refusal or 0.
 fn check_whole(strip: &[u8], entries: &[Entry], refused: u8) {
     let mut place = 0;
     let placed = entries.iter().map(|entry| {
@@ -109,11 +109,8 @@ fn check_whole(strip: &[u8], entries: &[Entry], refused: u8) {
         }
     });
     assert_eq!(next_all(strip), (placed.collect(), refused), "{strip:?}");
-    let handed: Vec<Entry> = entries.iter().map(|e| Entry { next: 0, ..*e }).collect();
-    assert_eq!(visit(strip), (handed, refused), "{strip:?}");
     let sum = entries.iter().map(sum_of).fold(0, u64::wrapping_add);
     assert_eq!(read_all(strip), sum, "{strip:?}");
-    assert_eq!(visit_all(strip), (sum, refused), "{strip:?}");
 }
 
 /// Three entries in every order of kinds, then closes, from none to more than
