@@ -419,11 +419,11 @@ static inline ospf_entry ospf_begin(void)
 static inline OSPF_ALWAYS_INLINE ospf_entry ospf_next(const uint8_t *strip, size_t length, ospf_entry before)
 {
     ospf_entry entry = {0, length, 0, 0};
+    /* From so many of the last places the longest entry would not fit. */
+    const size_t most = OSPF_BODY_IPV6, last = length < most ? length : most;
     size_t place = before.next;
     uint8_t kind;
-    if (OSPF_UNLIKELY((ptrdiff_t)place > (ptrdiff_t)length - (1 + OSPF_BODY_IPV6))) {
-        return ospf_step(strip, length, place);
-    }
+    if (OSPF_UNLIKELY(place >= length - last)) return ospf_step(strip, length, place);
     kind = strip[place];
     switch (before.kind) {
     case OSPF_KIND_OPEN:

@@ -192,6 +192,11 @@ static void steps(void)
     }
     check(same, "every step");
     check(ospf_strip_step(strip, 4, SIZE_MAX) == refused(OSPF_REFUSED_PLACE, 0), "the largest place");
+    for (size_t length = 0; length <= sizeof strip; length++) {
+        const ospf_entry before = {strip, SIZE_MAX - length, OSPF_KIND_U8, 0};
+        same &= ospf_next(strip, length, before).refused == OSPF_REFUSED_PLACE;
+    }
+    check(same, "an entry whose next place is beyond the strip");
 }
 
 /* Each refusal by its number, and nothing written. */

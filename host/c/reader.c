@@ -1,7 +1,9 @@
 /*
- * The reader of include/ospf.h for programs that are not in C: one step with all that it reads, and a whole strip, as
- * its entries and as a sum. host/c-reader has these for Rust.
+ * The reader of include/ospf.h for programs that are not in C: one step with all that it reads, a whole strip, as its
+ * entries and as a sum, and the names of ids. host/c-reader has these for Rust.
  */
+#include <string.h>
+
 #include "ospf.h"
 
 /* All that can be read of an entry. What it does not have is 0. */
@@ -15,6 +17,7 @@ typedef struct reader_step {
 void reader_step_at(const uint8_t *strip, size_t length, size_t place, reader_step *step);
 uint8_t reader_next(const uint8_t *strip, size_t length, reader_step *steps, size_t *count);
 uint64_t reader_read_all(const uint8_t *strip, size_t length);
+size_t reader_name(uint8_t version, uint8_t id, uint8_t *name, size_t room);
 
 static uint64_t be64(const uint8_t *at) { return (uint64_t)ospf_be32(at) << 32 | ospf_be32(at + 4); }
 
@@ -91,4 +94,13 @@ uint64_t reader_read_all(const uint8_t *strip, size_t length)
         }
     }
     return sum;
+}
+
+/* The length of a name, which is written to name if there is room for it; 0 where the version has no such id. */
+size_t reader_name(uint8_t version, uint8_t id, uint8_t *name, size_t room)
+{
+    const char *text = ospf_name(version, id);
+    size_t length = text == NULL ? 0 : strlen(text);
+    if (0 < length && length <= room) memcpy(name, text, length);
+    return length;
 }

@@ -54,6 +54,7 @@ mod library {
             count: *mut usize,
         ) -> u8;
         pub unsafe fn reader_read_all(strip: *const u8, length: usize) -> u64;
+        pub unsafe fn reader_name(version: u8, id: u8, name: *mut u8, room: usize) -> usize;
     }
 }
 
@@ -114,4 +115,13 @@ pub fn read_all(strip: &[u8]) -> u64 {
     // SAFETY: the function reads at most the `strip.len()` bytes of `strip`,
     // whatever they are; they live for the call, and it keeps no pointer.
     unsafe { library::reader_read_all(strip.as_ptr(), strip.len()) }
+}
+
+/// The name of a field, by `ospf_name`; none where the version has no such id.
+pub fn name(version: u8, id: u8) -> Option<String> {
+    let mut name = [0; 64];
+    // SAFETY: the function writes at most the `name.len()` bytes of `name`,
+    // which lives for the call, and keeps no pointer. It takes any numbers.
+    let length = unsafe { library::reader_name(version, id, name.as_mut_ptr(), name.len()) };
+    (length > 0).then(|| String::from_utf8_lossy(&name[..length]).into_owned())
 }

@@ -59,7 +59,14 @@ fn from_c() {
         _ => word.as_ref(),
     });
     let mut compile = Command::new(words.next().expect("cc"));
-    compile.args(["-std=c11", "-Wall", "-Wextra", "-Werror", "-pedantic"]);
+    compile.args([
+        "-std=c11",
+        "-O2",
+        "-Wall",
+        "-Wextra",
+        "-Werror",
+        "-pedantic",
+    ]);
     compile.args(words).arg("-o").arg(&program);
     printed(compile.current_dir(root()));
     assert_eq!(printed(&mut Command::new(program)), block(&section, "text"));
