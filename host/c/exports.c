@@ -154,7 +154,8 @@ static void newness(void)
         check(ospf_newness(version, first, 20, first, 20) == OSPF_NEWNESS_SAME, "neither is newer");
     }
     first[0] = 0x0E, first[1] = 0x10;
-    check(ospf_compared(ospf_newness(2, first, 20, first, 20)) == OSPF_NEWNESS_SAME, "an age of 3,600");
+    check(ospf_newness(2, first, 20, first, 20) == OSPF_NEWNESS_SAME, "an age of 3,600");
+    check(ospf_compared(ospf_newness(2, first, 20, second, 21)) == OSPF_NEWNESS_FIRST, "an age of 3,600, first");
     first[1] = 0x11;
     check(ospf_newness(2, first, 20, second, 21) == refused(OSPF_REFUSED_AGE, 0), "an age of 3,601, first");
     check(ospf_newness(2, second, 21, first, 20) == refused(OSPF_REFUSED_AGE, 0), "an age of 3,601, second");
@@ -167,12 +168,14 @@ static void newness(void)
 static void prefixes(void)
 {
     const uint8_t first[8] = {0x20, 1, 0x0D, 0xB8, 0x50, 0, 0, 0}, second[5] = {0x20, 1, 0x0D, 0xB8, 0x51};
+    const uint8_t last[16] = {0x20, 1, 0x0D, 0xB8, 0, 0, 0, 0, 0, 0, 0, 0, 0, 0, 0, 1};
     const uint8_t longer[17] = {0x20, 1, 0x0D, 0xB8, 0x50, 0, 0, 0, 0, 0, 0, 0, 0, 0, 0, 0, 0xFF};
     check(ospf_prefix_compare(36, first, 8, 36, first, 5) == OSPF_PREFIX_SAME, "zeros left out");
     check(ospf_prefix_compare(36, first, 8, 36, longer, 17) == OSPF_PREFIX_SAME, "a byte past 16");
     check(ospf_prefix_compare(36, first, 8, 36, second, 5) == OSPF_PREFIX_DIFFERENT, "a byte that differs");
     check(ospf_prefix_compare(36, first, 8, 37, first, 8) == OSPF_PREFIX_DIFFERENT, "lengths that differ");
     check(ospf_compared(ospf_prefix_compare(0, first, 0, 0, second, 0)) == OSPF_PREFIX_SAME, "no octets");
+    check(ospf_prefix_compare(128, last, 16, 128, last, 15) == OSPF_PREFIX_DIFFERENT, "the last byte");
     check(ospf_prefix_compare(128, first, 8, 128, first, 8) == OSPF_PREFIX_SAME, "128 bits");
     check(ospf_prefix_compare(129, first, 8, 36, first, 8) == refused(OSPF_REFUSED_PREFIX_LENGTH, 0), "129, first");
     check(ospf_prefix_compare(36, first, 8, 129, first, 8) == refused(OSPF_REFUSED_PREFIX_LENGTH, 0), "129, second");
