@@ -1,6 +1,7 @@
 /*
- * Calls each export of libospf.a from C, through include/ospf.h: an example input each, its whole strip, the bytes past
- * it, and the refusals. The last line is "c: N checks passed"; the exit status is 0 only where all passed.
+ * Calls each export of libospf.a from C, through include/ospf.h: each walk on an example input, its whole strip, the
+ * bytes past it, and the strip read by ospf_step beside the proved step; the comparisons; and the refusals. The last
+ * line is "c: N checks passed"; the exit status is 0 only where all passed.
  */
 #include <stdio.h>
 #include <string.h>
@@ -21,13 +22,13 @@ static void check(int ok, const char *what)
 
 /* Entries as the strip has them, for places below 256. */
 #define PLACES(start, end) 0, 0, 0, start, 0, 0, 0, end
-#define OPEN(id, start, end) OSPF_OPEN, id, PLACES(start, end)
-#define CLOSE OSPF_CLOSE
-#define U8(id, start, end, v) OSPF_U8, id, PLACES(start, end), v
-#define U16(id, start, end, a, b) OSPF_U16, id, PLACES(start, end), a, b
-#define U32(id, start, end, a, b, c, d) OSPF_U32, id, PLACES(start, end), a, b, c, d
-#define IPV4(id, start, end, a, b, c, d) OSPF_IPV4, id, PLACES(start, end), a, b, c, d
-#define BYTES(id, start, end) OSPF_BYTES, id, PLACES(start, end)
+#define OPEN(id, start, end) OSPF_KIND_OPEN, id, PLACES(start, end)
+#define CLOSE OSPF_KIND_CLOSE
+#define U8(id, start, end, v) OSPF_KIND_U8, id, PLACES(start, end), v
+#define U16(id, start, end, a, b) OSPF_KIND_U16, id, PLACES(start, end), a, b
+#define U32(id, start, end, a, b, c, d) OSPF_KIND_U32, id, PLACES(start, end), a, b, c, d
+#define IPV4(id, start, end, a, b, c, d) OSPF_KIND_IPV4, id, PLACES(start, end), a, b, c, d
+#define BYTES(id, start, end) OSPF_KIND_BYTES, id, PLACES(start, end)
 
 /* The fields of a version 2 header that is at a place: LS type, and the last byte of its length. */
 #define HEADER_V2(at, type, length)                                                    \
@@ -36,6 +37,39 @@ static void check(int ok, const char *what)
         U32(5, at + 12, at + 16, 0x80, 0, 0, 1), U16(6, at + 16, at + 18, 0x12, 0x34), \
         U16(7, at + 18, at + 20, 0, length)
 
+/* A refusal as an export answers it, with the length in the low bits. */
+static uint64_t refused(uint8_t number, uint32_t length) { return (uint64_t)number << 32 | length; }
+
+/* At every place the inline step says what the proved one does. */
+static int same_steps(const uint8_t *strip, size_t length)
+{
+    for (size_t place = 0; place <= length + 1; place++) {
+        ospf_entry entry = ospf_step(strip, length, place);
+        uint32_t bytes = entry.kind == 0 ? 0 : (uint32_t)(entry.next - place);
+        if (ospf_strip_step(strip, length, place) != refused(entry.refused, bytes)) return 0;
+    }
+    return 1;
+}
+
+/* The sum of the values that are numbers, so that a strip is read to its end. */
+static uint64_t sum_of_values(const uint8_t *strip, size_t length)
+{
+    uint64_t sum = 0;
+    ospf_entry entry;
+    for (size_t place = 0; place < length; place = entry.next) {
+        entry = ospf_step(strip, length, place);
+        switch (entry.kind) {
+        case OSPF_KIND_U8: sum += ospf_u8(entry); break;
+        case OSPF_KIND_U16: sum += ospf_u16(entry); break;
+        case OSPF_KIND_U32:
+        case OSPF_KIND_IPV4: sum += ospf_u32(entry); break;
+        case 0: return UINT64_MAX;
+        default: break;
+        }
+    }
+    return sum;
+}
+
 /* The strip is the expected one, and the bytes past it are as they were. */
 static void check_strip(const char *what, uint64_t answer, const uint8_t *strip, size_t room, const uint8_t *expected,
                         size_t length)
@@ -43,6 +77,7 @@ static void check_strip(const char *what, uint64_t answer, const uint8_t *strip,
     check(ospf_number(answer) == 0, what);
     check(ospf_length(answer) == length && answer == length, what);
     check(length <= room && memcmp(strip, expected, length) == 0, what);
+    check(same_steps(strip, length), what);
     for (size_t i = length; i < room; i++) {
         if (strip[i] != 0xA5) {
             check(0, what);
@@ -62,6 +97,13 @@ static void headers(void)
     memset(strip, 0xA5, sizeof strip);
     uint64_t answer = ospf_lsa_headers(2, data, sizeof data, 8, strip, sizeof strip);
     check_strip("header list", answer, strip, sizeof strip, expected, sizeof expected);
+    /* The values of the header: age, options, type, both ids, sequence number, checksum and length. */
+    uint64_t values = 1 + 2 + 1 + 0x0A000001u + 0x0A000002u + 0x80000001u + 0x1234u + 24;
+    check(sum_of_values(strip, ospf_length(answer)) == values, "the header's values");
+    ospf_entry tail = ospf_step(strip, sizeof expected, sizeof expected - 1 - OSPF_BODY_BYTES);
+    check(tail.kind == OSPF_KIND_BYTES && tail.next == sizeof expected, "the tail's entry");
+    check(ospf_id(tail) == OSPF_V2_UNPARSED && ospf_start(tail) == 28 && ospf_end(tail) == 47, "the tail's range");
+    check(strcmp(ospf_name(2, ospf_id(tail)), "unparsed") == 0, "the tail's name");
 }
 
 /* A version 3 update of one LSA, a network LSA with one router. */
@@ -101,6 +143,65 @@ static void single(void)
     check_strip("single LSA", answer, strip, sizeof strip, expected, sizeof expected);
 }
 
+/* Two headers that differ in the sequence number, then in nothing; each refusal of the comparison. */
+static void newness(void)
+{
+    uint8_t first[20] = {0, 1, 2, 1, 10, 0, 0, 1, 10, 0, 0, 2, 0x80, 0, 0, 2, 0x12, 0x34, 0, 24};
+    uint8_t second[21] = {0, 1, 2, 1, 10, 0, 0, 1, 10, 0, 0, 2, 0x80, 0, 0, 1, 0x12, 0x34, 0, 24, 0xFF};
+    for (uint8_t version = 2; version <= 3; version++) {
+        check(ospf_newness(version, first, 20, second, 21) == OSPF_NEWNESS_FIRST, "the first is newer");
+        check(ospf_newness(version, second, 21, first, 20) == OSPF_NEWNESS_SECOND, "the second is newer");
+        check(ospf_newness(version, first, 20, first, 20) == OSPF_NEWNESS_SAME, "neither is newer");
+    }
+    first[0] = 0x0E, first[1] = 0x10;
+    check(ospf_newness(2, first, 20, first, 20) == OSPF_NEWNESS_SAME, "an age of 3,600");
+    check(ospf_compared(ospf_newness(2, first, 20, second, 21)) == OSPF_NEWNESS_FIRST, "an age of 3,600, first");
+    first[1] = 0x11;
+    check(ospf_newness(2, first, 20, second, 21) == refused(OSPF_REFUSED_AGE, 0), "an age of 3,601, first");
+    check(ospf_newness(2, second, 21, first, 20) == refused(OSPF_REFUSED_AGE, 0), "an age of 3,601, second");
+    check(ospf_newness(2, first, 19, second, 21) == refused(OSPF_REFUSED_TOO_SHORT, 0), "19 bytes, first");
+    check(ospf_newness(2, second, 21, first, 19) == refused(OSPF_REFUSED_TOO_SHORT, 0), "19 bytes, second");
+    check(ospf_newness(1, first, 19, first, 19) == refused(OSPF_REFUSED_VERSION, 0), "newness in version 1");
+}
+
+/* Prefixes by their octets as packets have them, with zeros left out or put in; each refusal of the comparison. */
+static void prefixes(void)
+{
+    const uint8_t first[8] = {0x20, 1, 0x0D, 0xB8, 0x50, 0, 0, 0}, second[5] = {0x20, 1, 0x0D, 0xB8, 0x51};
+    const uint8_t last[16] = {0x20, 1, 0x0D, 0xB8, 0, 0, 0, 0, 0, 0, 0, 0, 0, 0, 0, 1};
+    const uint8_t longer[17] = {0x20, 1, 0x0D, 0xB8, 0x50, 0, 0, 0, 0, 0, 0, 0, 0, 0, 0, 0, 0xFF};
+    check(ospf_prefix_compare(36, first, 8, 36, first, 5) == OSPF_PREFIX_SAME, "zeros left out");
+    check(ospf_prefix_compare(36, first, 8, 36, longer, 17) == OSPF_PREFIX_SAME, "a byte past 16");
+    check(ospf_prefix_compare(36, first, 8, 36, second, 5) == OSPF_PREFIX_DIFFERENT, "a byte that differs");
+    check(ospf_prefix_compare(36, first, 8, 37, first, 8) == OSPF_PREFIX_DIFFERENT, "lengths that differ");
+    check(ospf_compared(ospf_prefix_compare(0, first, 0, 0, second, 0)) == OSPF_PREFIX_SAME, "no octets");
+    check(ospf_prefix_compare(128, last, 16, 128, last, 15) == OSPF_PREFIX_DIFFERENT, "the last byte");
+    check(ospf_prefix_compare(128, first, 8, 128, first, 8) == OSPF_PREFIX_SAME, "128 bits");
+    check(ospf_prefix_compare(129, first, 8, 36, first, 8) == refused(OSPF_REFUSED_PREFIX_LENGTH, 0), "129, first");
+    check(ospf_prefix_compare(36, first, 8, 129, first, 8) == refused(OSPF_REFUSED_PREFIX_LENGTH, 0), "129, second");
+}
+
+/* What is no walk's strip: every byte as a kind, and every entry cut at every byte. */
+static void steps(void)
+{
+    uint8_t strip[40];
+    int same = 1;
+    memset(strip, 0xA5, sizeof strip);
+    for (unsigned kind = 0; kind < 256; kind++) {
+        strip[0] = (uint8_t)kind;
+        for (size_t length = 0; length <= sizeof strip; length++) {
+            same &= same_steps(strip, length);
+        }
+    }
+    check(same, "every step");
+    check(ospf_strip_step(strip, 4, SIZE_MAX) == refused(OSPF_REFUSED_PLACE, 0), "the largest place");
+    for (size_t length = 0; length <= sizeof strip; length++) {
+        const ospf_entry before = {strip, SIZE_MAX - length, OSPF_KIND_U8, 0};
+        same &= ospf_next(strip, length, before).refused == OSPF_REFUSED_PLACE;
+    }
+    check(same, "an entry whose next place is beyond the strip");
+}
+
 /* Each refusal by its number, and nothing written. */
 static void refusals(void)
 {
@@ -108,12 +209,12 @@ static void refusals(void)
     uint8_t strip[10], before[10];
     memset(before, 0xA5, sizeof before);
     memcpy(strip, before, sizeof before);
-    check(ospf_lsa_headers(4, data, 0, 0, strip, 10) == (uint64_t)OSPF_VERSION << 32, "refusal 1");
-    check(ospf_lsa(2, data, 65536, 0, strip, 10) == (uint64_t)OSPF_TOO_LONG << 32, "refusal 2");
-    check(ospf_lsu_lsas(3, data, 4, 0, 4294901761, strip, 10) == (uint64_t)OSPF_OFFSET << 32, "refusal 3");
-    check(ospf_lsu_lsas(3, data, 3, 0, 4294901760, strip, 10) == (uint64_t)OSPF_TOO_SHORT << 32, "refusal 4");
+    check(ospf_lsa_headers(4, data, 0, 0, strip, 10) == refused(OSPF_REFUSED_VERSION, 0), "refusal 1");
+    check(ospf_lsa(2, data, 65536, 0, strip, 10) == refused(OSPF_REFUSED_TOO_LONG, 0), "refusal 2");
+    check(ospf_lsu_lsas(3, data, 4, 0, 4294901761, strip, 10) == refused(OSPF_REFUSED_OFFSET, 0), "refusal 3");
+    check(ospf_lsu_lsas(3, data, 3, 0, 4294901760, strip, 10) == refused(OSPF_REFUSED_TOO_SHORT, 0), "refusal 4");
     uint64_t answer = ospf_lsa_headers(2, data, 0, 0, strip, 10);
-    check(ospf_number(answer) == OSPF_ROOM && ospf_length(answer) == 11, "refusal 5");
+    check(ospf_number(answer) == OSPF_REFUSED_ROOM && ospf_length(answer) == 11, "refusal 5");
     check(memcmp(strip, before, sizeof before) == 0, "a refused call writes nothing");
 }
 
@@ -122,6 +223,9 @@ int main(void)
     headers();
     update();
     single();
+    newness();
+    prefixes();
+    steps();
     refusals();
     printf("c: %d checks passed\n", passed);
     return failed != 0;
