@@ -1,6 +1,7 @@
 //! What the benchmark runs: the proved walks of `libospf.a`, the same strip
 //! written by careful Rust, and the reference's own functions over the
-//! recording stand-in; and the corpus it runs them on.
+//! recording stand-in; the walks with every field read afterwards, in Rust and
+//! in C; and the corpus it runs them on.
 
 pub mod careful;
 pub mod corpus;
@@ -8,6 +9,8 @@ pub mod read;
 
 use compare::Walks;
 use inputs::Input;
+use oracle::Walk;
+use ospf_strip::{Strip, Version};
 
 /// The proved walks.
 pub const PORT: Walks = compare::PROVED;
@@ -28,10 +31,29 @@ pub enum Way {
     Careful,
     /// The reference's functions over the recording stand-in.
     Reference,
+    /// The proved walks, and then every field read in Rust.
+    Read,
+    /// The same by an ordinary `for`.
+    ReadByFor,
+    /// The proved walks, and then every field read in C.
+    ReadInC,
 }
 
-/// All ways, in the order in which they are printed.
-pub const WAYS: [Way; 3] = [Way::Port, Way::Careful, Way::Reference];
+/// All ways. The first three walk, and the others read what was walked.
+pub const WAYS: [Way; 6] = [
+    Way::Port,
+    Way::Careful,
+    Way::Reference,
+    Way::Read,
+    Way::ReadByFor,
+    Way::ReadInC,
+];
+
+/// The ways to walk, in the order in which they are printed.
+pub const WALKS: [Way; 3] = [Way::Port, Way::Careful, Way::Reference];
+
+/// The walk alone, and the ways to read.
+pub const READERS: [Way; 4] = [Way::Port, Way::Read, Way::ReadByFor, Way::ReadInC];
 
 impl Way {
     /// Runs one call, and gives a number that depends on its result. `strip`
@@ -41,6 +63,21 @@ impl Way {
             Way::Port => PORT.run(input, strip),
             Way::Careful => CAREFUL.run(input, strip),
             Way::Reference => input.call().record().fields().len() as u64,
+            Way::Read => read::read_all(walked(input, strip)),
+            Way::ReadByFor => read::read_by_for(walked(input, strip)),
+            Way::ReadInC => c_reader::read_all(walked(input, strip).bytes()),
         }
     }
+}
+
+/// The strip of an input that no walk turns down.
+pub fn walked<'s>(input: &Input, strip: &'s mut [u8]) -> Strip<'s> {
+    let (data, offset) = (&input.data, input.offset);
+    let version = Version::try_from(input.version).expect("a version");
+    let strip = match input.walk {
+        Walk::Headers => ospf_strip::lsa_headers(version, data, offset, strip),
+        Walk::Update => ospf_strip::lsu_lsas(version, data, input.count, offset, strip),
+        Walk::Lsa => ospf_strip::lsa(version, data, offset, strip),
+    };
+    strip.expect("an accepted call")
 }

@@ -1,9 +1,11 @@
 //! Runs the port, careful Rust and the reference over one corpus and prints
-//! what each takes: `bench [ROUNDS]`. The other words are what it calls
-//! itself with, under valgrind: `count` and `stack`.
+//! what each takes, and what reading every field adds: `bench [ROUNDS]`. The
+//! other words are what it calls itself with, under valgrind: `count` and
+//! `stack`.
 
 mod count;
 mod growth;
+mod reading;
 mod stack;
 mod time;
 
@@ -12,7 +14,7 @@ use std::hint::black_box;
 use std::process::ExitCode;
 
 use bench::corpus::{KINDS, Kind};
-use bench::{WAYS, Way};
+use bench::{WALKS, Way};
 use inputs::Input;
 
 /// The most data of a call.
@@ -80,6 +82,8 @@ fn all(rounds: usize) {
         row(kind, rounds);
     }
     println!();
+    reading::print(rounds);
+    println!();
     growth::print(rounds);
     println!();
     stack::print();
@@ -98,9 +102,9 @@ fn heading() {
 fn row(kind: Kind, rounds: usize) {
     let mut load = Load::new(kind.inputs(MOST));
     print!("{:26}{:>7} |", kind.name(), load.bytes());
-    figures(time::medians(&mut load, WAYS, rounds).map(|ns| ns / 1e3));
+    figures(time::medians(&mut load, WALKS, rounds).map(|ns| ns / 1e3));
     print!(" |");
-    match WAYS.map(|way| count::instructions(kind, MOST, way)) {
+    match WALKS.map(|way| count::instructions(kind, MOST, way)) {
         [Some(port), Some(careful), Some(reference)] => {
             figures([port, careful, reference].map(|n| n as f64 / 1e3));
         }

@@ -5,6 +5,8 @@
 use std::fmt::Write;
 use std::path::PathBuf;
 
+use ospf_strip::Version;
+
 /// The lines of the header that stand around the generated part.
 const BEGIN: &str =
     "/* Generated from here on: `cargo run --offline -p c-header` in host/ writes it anew. */\n";
@@ -98,6 +100,7 @@ fn fields(version: u8) -> impl Iterator<Item = (String, usize)> {
 
 /// All ids of a version, with the reference's names.
 fn table(version: u8) -> impl Iterator<Item = (u8, &'static str)> {
+    let version = Version::try_from(version).expect("a version");
     (0..=u8::MAX).filter_map(move |id| Some((id, ospf_strip::name(version, id)?)))
 }
 

@@ -4,12 +4,16 @@ use std::io::Write;
 use std::path::Path;
 use std::process::{Command, Stdio};
 
+use ospf_strip::Version;
+
 #[test]
 fn names() {
-    for version in 0..=255 {
+    for number in 0..=255 {
+        let version = Version::try_from(number).ok();
         for id in 0..=255 {
-            let expected = ospf_strip::name(version, id).map(String::from);
-            assert_eq!(c_reader::name(version, id), expected, "{version} {id}");
+            let expected = version.and_then(|version| ospf_strip::name(version, id));
+            let name = c_reader::name(number, id);
+            assert_eq!(name.as_deref(), expected, "{number} {id}");
         }
     }
 }

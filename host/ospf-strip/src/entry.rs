@@ -206,11 +206,6 @@ impl<'a> Entries<'a> {
         }
     }
 
-    /// What is not read yet.
-    pub(crate) fn rest(&self) -> &'a [u8] {
-        self.rest
-    }
-
     /// The next bytes, as many as the caller's kind has. The one test of an
     /// entry.
     #[inline]
@@ -218,6 +213,16 @@ impl<'a> Entries<'a> {
         let (bytes, rest) = self.rest.split_first_chunk()?;
         self.rest = rest;
         Some(bytes)
+    }
+
+    /// The same, and the kind of the entry after them; nothing where they are
+    /// the last ones.
+    #[inline(always)]
+    fn pass<const N: usize>(&mut self) -> Option<(&'a [u8; N], u8)> {
+        let (bytes, rest) = self.rest.split_first_chunk()?;
+        let kind = *rest.first()?;
+        self.rest = rest;
+        Some((bytes, kind))
     }
 }
 
@@ -247,6 +252,57 @@ impl<'a> Iterator for Entries<'a> {
             version: self.version,
             view,
         })
+    }
+
+    // A whole strip at once, for `for_each` and what else goes by `fold`. An
+    // arm calls `f` itself and knows that an entry follows; so the compiler
+    // ends each arm with a jump to the next one, in place of a loop around one
+    // `match` (docs/BENCHMARKS.md). After a close the two kinds that mostly
+    // follow are tried first.
+    #[inline]
+    fn fold<B, F>(mut self, init: B, mut f: F) -> B
+    where
+        F: FnMut(B, Entry<'a>) -> B,
+    {
+        let version = self.version;
+        let mut folded = init;
+        let mut kind = self.rest.first().copied().unwrap_or_default();
+        loop {
+            macro_rules! arm {
+                ($bytes:pat, $view:expr) => {{
+                    let Some(($bytes, next)) = self.pass() else {
+                        break;
+                    };
+                    let view = $view;
+                    folded = f(folded, Entry { version, view });
+                    kind = next;
+                }};
+            }
+            // The kinds are 1 to 8, of which 8 has the low bits 0.
+            match kind & 7 {
+                1 => arm!(bytes, View::Open(bytes)),
+                2 => {
+                    arm!([_], View::Close);
+                    if kind == 2 {
+                        arm!([_], View::Close);
+                    }
+                    if kind == 1 {
+                        arm!(bytes, View::Open(bytes));
+                    }
+                }
+                3 => arm!(bytes, View::U8(bytes)),
+                4 => arm!(bytes, View::U16(bytes)),
+                5 => arm!(bytes, View::U32(bytes)),
+                6 => arm!(bytes, View::Ipv4(bytes)),
+                7 => arm!(bytes, View::Ipv6(bytes)),
+                _ => arm!(bytes, View::Bytes(bytes)),
+            }
+        }
+        // The last entry.
+        for entry in self {
+            folded = f(folded, entry);
+        }
+        folded
     }
 }
 

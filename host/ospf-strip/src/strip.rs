@@ -36,17 +36,17 @@ impl<'a> Strip<'a> {
     ///
     /// The place of the first entry whose kind is unknown, or that is cut.
     pub fn from_bytes(version: Version, bytes: &'a [u8]) -> Result<Strip<'a>, DamagedStrip> {
-        let mut entries = Entries::of(version, bytes);
-        entries.by_ref().for_each(drop);
-        if entries.rest().is_empty() {
-            return Ok(Strip { version, bytes });
+        // By the proved step, so that it has the word on what is an entry.
+        let mut place = 0;
+        loop {
+            let answer = exports::ospf_strip_step(bytes, place);
+            match ((answer >> 32) as u8, answer as u32) {
+                (0, 0) => return Ok(Strip { version, bytes }),
+                (0, length) => place += length as usize,
+                (7, _) => return Err(DamagedStrip::Kind { place }),
+                _ => return Err(DamagedStrip::Cut { place }),
+            }
         }
-        let place = bytes.len() - entries.rest().len();
-        // The proved step knows which it is.
-        Err(match (exports::ospf_strip_step(bytes, place) >> 32) as u8 {
-            7 => DamagedStrip::Kind { place },
-            _ => DamagedStrip::Cut { place },
-        })
     }
 
     /// The version whose fields these are.

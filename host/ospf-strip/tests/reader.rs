@@ -1,0 +1,202 @@
+//! Three readers of strips beside each other: the proved step, this crate's
+//! entries, and the inline functions of include/ospf.h. On the strips of the
+//! walks and on damaged ones they give the same entries, the same end, and
+//! the same refusal at the same place.
+
+mod lines;
+mod walk;
+
+use c_reader::Step;
+use inputs::{Class, Rng};
+use lines::line;
+use ospf_strip::{Buffer, Entry, Strip, Value, Version, exports};
+use walk::run;
+
+/// The places of the entries by the proved step, and what stands after them:
+/// the number 0 at the end, or a refusal's.
+fn proved(bytes: &[u8]) -> (Vec<usize>, usize, u8) {
+    let (mut places, mut place) = (Vec::new(), 0);
+    loop {
+        let answer = exports::ospf_strip_step(bytes, place);
+        match answer as u32 {
+            0 => return (places, place, (answer >> 32) as u8),
+            length => {
+                places.push(place);
+                place += length as usize;
+            }
+        }
+    }
+}
+
+/// An entry's value as C has it.
+fn halves(entry: &Entry) -> (u64, u64) {
+    match entry.value() {
+        Some(Value::U8(v)) => (0, v.into()),
+        Some(Value::U16(v)) => (0, v.into()),
+        Some(Value::U32(v)) => (0, v.into()),
+        Some(Value::Ipv4(v)) => (0, u32::from(v).into()),
+        Some(Value::Ipv6(v)) => {
+            let bits = u128::from(v);
+            ((bits >> 64) as u64, bits as u64)
+        }
+        _ => (0, 0),
+    }
+}
+
+/// All readers on these bytes; how many entries there are, and the refusal.
+fn compare(version: Version, bytes: &[u8]) -> (usize, u8) {
+    let (places, place, number) = proved(bytes);
+    match Strip::from_bytes(version, bytes) {
+        Ok(_) => assert_eq!((place, number), (bytes.len(), 0)),
+        Err(damage) => assert_eq!((damage.place(), damage.number()), (place, number)),
+    }
+    // The entries up to there, one after another and at once.
+    let strip = Strip::from_bytes(version, &bytes[..place]).expect("whole entries");
+    let entries: Vec<Entry> = strip.into_iter().collect();
+    let mut folded = Vec::new();
+    strip.entries().for_each(|entry| folded.push(entry));
+    assert_eq!(folded, entries);
+    assert_eq!(entries.len(), places.len());
+
+    let (c, refused) = c_reader::next_all(bytes);
+    assert_eq!((c.len(), refused), (places.len(), number));
+    for (i, (entry, c)) in entries.iter().zip(&c).enumerate() {
+        let next = places.get(i + 1).copied().unwrap_or(place);
+        // Written again by another program, an entry is its bytes: and the
+        // proved step reads those as that entry.
+        let written = listing::strip(&line(entry));
+        assert_eq!(written, bytes[places[i]..next]);
+        let range = entry.range().unwrap_or_default();
+        let expected = c_reader::Entry {
+            kind: entry.kind() as u8,
+            id: entry.id().unwrap_or_default(),
+            start: range.start,
+            end: range.end,
+            value: halves(entry),
+            next,
+        };
+        assert_eq!(*c, expected);
+    }
+    (places.len(), number)
+}
+
+/// The step in C at every place, entries or not, and at some beyond.
+fn compare_places(bytes: &[u8]) {
+    let last = bytes.len() + 2;
+    for place in (0..=last).chain([usize::MAX - 30, usize::MAX]) {
+        let answer = exports::ospf_strip_step(bytes, place);
+        let expected = match ((answer >> 32) as u8, answer as u32) {
+            (0, 0) => Err(0),
+            (0, length) => Ok(place + length as usize),
+            (number, _) => Err(number),
+        };
+        let found = match c_reader::step(bytes, place) {
+            Step::Entry(entry) => Ok(entry.next),
+            Step::End => Err(0),
+            Step::Refused(number) => Err(number),
+        };
+        assert_eq!(found, expected, "{bytes:?} at {place}");
+    }
+}
+
+#[test]
+fn strips_of_the_walks() {
+    let mut buffer = Buffer::new();
+    let mut entries = 0;
+    for class in [
+        Class::Structured,
+        Class::Tos,
+        Class::Prefix,
+        Class::Damaged,
+        Class::Large,
+    ] {
+        inputs::of_class(class, 8, 20, &mut |input| {
+            if let Ok(strip) = run(&mut buffer, &input) {
+                let (found, number) = compare(strip.version(), strip.bytes());
+                assert_eq!(number, 0);
+                entries += found;
+            }
+        });
+    }
+    assert!(entries > 500_000, "{entries}");
+}
+
+#[test]
+fn strips_of_the_captures() {
+    let mut buffer = Buffer::new();
+    let mut strips = 0;
+    for (_, file) in captures::published().expect("the published captures") {
+        for input in captures::inputs(&file) {
+            if let Ok(strip) = run(&mut buffer, &input) {
+                assert_eq!(compare(strip.version(), strip.bytes()).1, 0);
+                strips += 1;
+            }
+        }
+    }
+    assert!(strips > 400, "{strips}");
+}
+
+/// A strip with a byte changed, left out or added, cut, or with some bytes
+/// at random.
+fn damage(rng: &mut Rng, strip: &[u8]) -> Vec<u8> {
+    let mut bytes = strip.to_vec();
+    let at = rng.below(bytes.len());
+    match rng.below(5) {
+        0 => bytes[at] = rng.byte(),
+        1 => bytes[at] = rng.below(12) as u8,
+        2 => bytes.truncate(at),
+        3 => {
+            bytes.remove(at);
+        }
+        _ => bytes.insert(at, rng.below(12) as u8),
+    }
+    bytes
+}
+
+#[test]
+fn damaged_strips() {
+    let rng = &mut Rng::new(9);
+    let mut buffer = Buffer::new();
+    let mut numbers = [0; 9];
+    inputs::of_class(Class::Structured, 9, 5, &mut |input| {
+        let Ok(strip) = run(&mut buffer, &input) else {
+            return;
+        };
+        for _ in 0..5 {
+            let bytes = damage(rng, strip.bytes());
+            let (_, number) = compare(strip.version(), &bytes);
+            numbers[usize::from(number)] += 1;
+        }
+        compare_places(&damage(rng, strip.bytes()));
+    });
+    assert!(numbers[0] > 100, "{numbers:?}");
+    assert!(numbers[7] > 100 && numbers[8] > 100, "{numbers:?}");
+}
+
+/// Short strips: every kind byte, with every number of bytes after it.
+#[test]
+fn short_strips() {
+    for kind in 0..=255 {
+        for after in 0..30 {
+            let bytes = [vec![kind], vec![kind; after]].concat();
+            compare(Version::V3, &bytes);
+            compare_places(&bytes);
+        }
+    }
+    assert_eq!(compare(Version::V2, &[]), (0, 0));
+}
+
+/// Entries chosen at random, in any order: no walk's strip, and well formed.
+#[test]
+fn any_order_of_entries() {
+    let rng = &mut Rng::new(11);
+    for _ in 0..2_000 {
+        let mut bytes = Vec::new();
+        for _ in 0..rng.below(30) {
+            let kind = rng.below(listing::KINDS.len());
+            bytes.push(kind as u8 + 1);
+            bytes.extend(rng.bytes(listing::KINDS[kind].1));
+        }
+        assert_eq!(compare(Version::V2, &bytes).1, 0);
+    }
+}
