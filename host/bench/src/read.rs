@@ -1,6 +1,6 @@
 //! Strips read whole, as a program would that wants every field.
 
-use ospf_strip::{Entry, Strip, Value};
+use ospf_strip::{Entry, Strip};
 
 /// The sums of all ids, starts, ends and values, modulo 2^64.
 #[derive(Clone, Copy, Default)]
@@ -34,17 +34,8 @@ impl Sums {
 /// The value as a number; of an IPv6 address, its two halves together.
 #[inline]
 fn value(entry: Entry<'_>) -> u64 {
-    match entry.value() {
-        Some(Value::U8(v)) => v.into(),
-        Some(Value::U16(v)) => v.into(),
-        Some(Value::U32(v)) => v.into(),
-        Some(Value::Ipv4(v)) => u32::from(v).into(),
-        Some(Value::Ipv6(v)) => {
-            let bits = u128::from(v);
-            ((bits >> 64) as u64).wrapping_add(bits as u64)
-        }
-        _ => 0,
-    }
+    let bits = entry.value().map_or(0, u128::from);
+    ((bits >> 64) as u64).wrapping_add(bits as u64)
 }
 
 /// Every field of a strip, added up, by the strip's own loop.

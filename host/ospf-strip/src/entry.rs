@@ -54,6 +54,20 @@ impl fmt::Display for Value {
     }
 }
 
+/// The value as a number; of an address, that of its bytes.
+impl From<Value> for u128 {
+    #[inline]
+    fn from(value: Value) -> u128 {
+        match value {
+            Value::U8(v) => v.into(),
+            Value::U16(v) => v.into(),
+            Value::U32(v) => v.into(),
+            Value::Ipv4(v) => v.to_bits().into(),
+            Value::Ipv6(v) => v.to_bits(),
+        }
+    }
+}
+
 /// Where an entry's value begins: after kind, id, start and end.
 const HEAD: usize = 10;
 
@@ -258,7 +272,7 @@ impl<'a> Iterator for Entries<'a> {
     // arm calls `f` itself and knows that an entry follows; so the compiler
     // ends each arm with a jump to the next one, in place of a loop around one
     // `match` (docs/BENCHMARKS.md). After a close the two kinds that mostly
-    // follow are tried first.
+    // follow are tried first, by branches, which are predicted better.
     #[inline]
     fn fold<B, F>(mut self, init: B, mut f: F) -> B
     where
@@ -267,11 +281,11 @@ impl<'a> Iterator for Entries<'a> {
         let version = self.version;
         let mut folded = init;
         let mut kind = self.rest.first().copied().unwrap_or_default();
-        loop {
+        'entries: loop {
             macro_rules! arm {
                 ($bytes:pat, $view:expr) => {{
                     let Some(($bytes, next)) = self.pass() else {
-                        break;
+                        break 'entries;
                     };
                     let view = $view;
                     folded = f(folded, Entry { version, view });

@@ -9,7 +9,7 @@ mod walk;
 use c_reader::Step;
 use inputs::{Class, Rng};
 use lines::line;
-use ospf_strip::{Buffer, Entry, Strip, Value, Version, exports};
+use ospf_strip::{Buffer, Entry, Strip, Version, exports};
 use walk::run;
 
 /// The places of the entries by the proved step, and what stands after them:
@@ -30,17 +30,8 @@ fn proved(bytes: &[u8]) -> (Vec<usize>, usize, u8) {
 
 /// An entry's value as C has it.
 fn halves(entry: &Entry) -> (u64, u64) {
-    match entry.value() {
-        Some(Value::U8(v)) => (0, v.into()),
-        Some(Value::U16(v)) => (0, v.into()),
-        Some(Value::U32(v)) => (0, v.into()),
-        Some(Value::Ipv4(v)) => (0, u32::from(v).into()),
-        Some(Value::Ipv6(v)) => {
-            let bits = u128::from(v);
-            ((bits >> 64) as u64, bits as u64)
-        }
-        _ => (0, 0),
-    }
+    let bits = entry.value().map_or(0, u128::from);
+    ((bits >> 64) as u64, bits as u64)
 }
 
 /// All readers on these bytes; how many entries there are, and the refusal.
@@ -54,8 +45,10 @@ fn compare(version: Version, bytes: &[u8]) -> (usize, u8) {
     let strip = Strip::from_bytes(version, &bytes[..place]).expect("whole entries");
     let entries: Vec<Entry> = strip.into_iter().collect();
     let mut folded = Vec::new();
-    strip.entries().for_each(|entry| folded.push(entry));
+    (&strip).into_iter().for_each(|entry| folded.push(entry));
     assert_eq!(folded, entries);
+    let mut ended = strip.entries().skip(entries.len());
+    assert_eq!((ended.next(), ended.next()), (None, None));
     assert_eq!(entries.len(), places.len());
 
     let (c, refused) = c_reader::next_all(bytes);

@@ -1,4 +1,4 @@
-//! The programs of README.md, in C and in Python, print what it says.
+//! The programs of README.md, in Rust, in C and in Python, print what it says.
 
 use std::fs;
 use std::io::Write;
@@ -44,6 +44,28 @@ fn printed(command: &mut Command) -> String {
     let stderr = String::from_utf8_lossy(&stderr);
     assert!(status.success(), "{command:?}: {status}\n{stderr}");
     String::from_utf8(stdout).expect("text")
+}
+
+/// As a crate of its own, outside of this workspace.
+#[test]
+fn from_rust() {
+    let section = section("From Rust");
+    let folder = folder("from-rust");
+    let dependencies = block(&section, "toml");
+    let path = "path/to/this/host/ospf-strip";
+    assert!(dependencies.contains(path));
+    let dependencies = dependencies.replace(path, env!("CARGO_MANIFEST_DIR"));
+    let package = "[package]\nname = \"yours\"\nedition = \"2024\"\n\n[workspace]\n";
+    fs::create_dir_all(folder.join("src")).expect("a folder");
+    let manifest = folder.join("Cargo.toml");
+    fs::write(&manifest, format!("{package}\n{dependencies}")).expect("the manifest is written");
+    fs::write(folder.join("src/main.rs"), block(&section, "rust")).expect("the program is written");
+    let mut run = Command::new(env!("CARGO"));
+    run.args(["run", "--offline", "--quiet", "--manifest-path"]);
+    run.arg(manifest)
+        .arg("--target-dir")
+        .arg(folder.join("target"));
+    assert_eq!(printed(&mut run), block(&section, "text"));
 }
 
 #[test]
