@@ -271,8 +271,8 @@ impl<'a> Iterator for Entries<'a> {
     // A whole strip at once, for `for_each` and what else goes by `fold`. An
     // arm calls `f` itself and knows that an entry follows; so the compiler
     // ends each arm with a jump to the next one, in place of a loop around one
-    // `match` (docs/BENCHMARKS.md). After a close the two kinds that mostly
-    // follow are tried first, by branches, which are predicted better.
+    // `match` (docs/BENCHMARKS.md). Where lists begin and go on, an open is
+    // tried first: by a branch, which is predicted better.
     #[inline]
     fn fold<B, F>(mut self, init: B, mut f: F) -> B
     where
@@ -297,15 +297,17 @@ impl<'a> Iterator for Entries<'a> {
                 1 => arm!(bytes, View::Open(bytes)),
                 2 => {
                     arm!([_], View::Close);
-                    if kind == 2 {
-                        arm!([_], View::Close);
-                    }
                     if kind == 1 {
                         arm!(bytes, View::Open(bytes));
                     }
                 }
                 3 => arm!(bytes, View::U8(bytes)),
-                4 => arm!(bytes, View::U16(bytes)),
+                4 => {
+                    arm!(bytes, View::U16(bytes));
+                    if kind == 1 {
+                        arm!(bytes, View::Open(bytes));
+                    }
+                }
                 5 => arm!(bytes, View::U32(bytes)),
                 6 => arm!(bytes, View::Ipv4(bytes)),
                 7 => arm!(bytes, View::Ipv6(bytes)),
