@@ -162,12 +162,14 @@ fn last<const N: usize>(bytes: &[u8]) -> &[u8; N] {
 
 impl Entry<'_> {
     /// The reference's name of the field, for programs.
+    #[inline]
     #[must_use]
     pub fn name(&self) -> Option<&'static str> {
         names::name(self.version, self.id()?)
     }
 
     /// The reference's name of the field, for a person.
+    #[inline]
     #[must_use]
     pub fn label(&self) -> Option<&'static str> {
         names::label(self.version, self.id()?)
@@ -181,6 +183,7 @@ impl Entry<'_> {
     ///
     /// The range does not lie in the packet, or the entry is a close, which
     /// has none.
+    #[inline]
     pub fn part<'p>(&self, packet: &'p [u8], offset: u64) -> Result<&'p [u8], OutsidePacket> {
         let range = self.range().ok_or(OutsidePacket)?;
         let place = |at: u32| usize::try_from(u64::from(at).checked_sub(offset)?).ok();
@@ -213,6 +216,7 @@ pub struct Entries<'a> {
 
 impl<'a> Entries<'a> {
     /// The bytes are whole entries from end to end.
+    #[inline]
     pub(crate) fn of(version: Version, bytes: &'a [u8]) -> Entries<'a> {
         Entries {
             version,

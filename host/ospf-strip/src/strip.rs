@@ -75,7 +75,7 @@ impl<'a> Strip<'a> {
         if entries.next().and_then(|first| first.id()) != Some(OUTER) {
             return 1;
         }
-        let (mut records, mut depth) = (0, 1);
+        let (mut records, mut depth) = (0, 1_i64);
         for entry in entries {
             match entry.kind() {
                 Kind::Open => {
