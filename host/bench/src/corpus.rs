@@ -54,7 +54,13 @@ impl Kind {
     /// The inputs of the kind, one of at most `size` bytes; for the captures
     /// all of them, whatever the size.
     pub fn inputs(self, size: usize) -> Vec<Input> {
-        let mut rng = Rng::new(self as u64);
+        self.seeded(size, 0)
+    }
+
+    /// The same with other random contents, by the seed; the captures are as
+    /// they are.
+    pub fn seeded(self, size: usize, seed: u64) -> Vec<Input> {
+        let mut rng = Rng::new(seed << 8 | self as u64);
         let rng = &mut rng;
         match self {
             Kind::HeadersV2 | Kind::HeadersV3 => vec![self.headers(rng, size)],

@@ -1,7 +1,7 @@
 //! Runs the port, careful Rust and the reference over one corpus and prints
-//! what each takes, and what reading every field adds: `bench [ROUNDS]`. The
-//! other words are what it calls itself with, under valgrind: `count` and
-//! `stack`.
+//! what each takes, and what reading every field adds: `bench [ROUNDS]`; the
+//! latter on a corpus of another seed: `bench reading ROUNDS SEED`. The other
+//! words are what it calls itself with, under valgrind: `count` and `stack`.
 
 mod count;
 mod growth;
@@ -60,6 +60,10 @@ fn main() -> ExitCode {
         [] => all(ROUNDS),
         ["count", rest @ ..] => return count::child(rest),
         ["stack"] => stack::child(),
+        ["reading", rounds, seed] => match (rounds.parse(), seed.parse()) {
+            (Ok(rounds @ 1..), Ok(seed)) => reading::print_seeded(rounds, seed),
+            _ => return usage(),
+        },
         [rounds] => match rounds.parse() {
             Ok(rounds @ 1..) => all(rounds),
             _ => return usage(),
@@ -70,7 +74,7 @@ fn main() -> ExitCode {
 }
 
 fn usage() -> ExitCode {
-    eprintln!("usage: bench [ROUNDS]");
+    eprintln!("usage: bench [ROUNDS], or bench reading ROUNDS SEED");
     ExitCode::from(2)
 }
 

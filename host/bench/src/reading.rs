@@ -43,3 +43,16 @@ fn entries(load: &mut Load) -> usize {
     let count = |input| bench::walked(input, strip).entries().count();
     inputs.iter().map(count).sum()
 }
+
+/// The ratios to the walk on a corpus of another seed, a line a kind: for
+/// figures by which no loop was chosen.
+pub fn print_seeded(rounds: usize, seed: u64) {
+    println!("seed {seed}: microseconds of the walk, then its ratios: Rust, for, C");
+    for kind in KINDS.into_iter().filter(|&kind| kind != Kind::Captures) {
+        let mut load = Load::new(kind.seeded(MOST, seed));
+        let [walk, readers @ ..] = time::medians(&mut load, READERS, rounds);
+        print!("{:26}{:7.1}", kind.name(), walk / 1e3);
+        readers.iter().for_each(|ns| print!("{:8.2}", ns / walk));
+        println!();
+    }
+}
