@@ -438,10 +438,7 @@ static inline OSPF_ALWAYS_INLINE ospf_entry ospf_next(const uint8_t *strip, size
     case OSPF_KIND_IPV6: OSPF_THEN(CLOSE) break;
     default: break;
     }
-    OSPF_THEN(U16) OSPF_THEN(U8) OSPF_THEN(IPV4) OSPF_THEN(U32)
-    OSPF_THEN(CLOSE) OSPF_THEN(OPEN) OSPF_THEN(IPV6) OSPF_THEN(BYTES)
-    entry.refused = OSPF_REFUSED_KIND;
-    return entry;
+    return ospf_step(strip, length, place);
 }
 
 #undef OSPF_THEN

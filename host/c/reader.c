@@ -14,11 +14,6 @@ typedef struct reader_step {
     uint8_t kind, refused, id;
 } reader_step;
 
-void reader_step_at(const uint8_t *strip, size_t length, size_t place, reader_step *step);
-uint8_t reader_next(const uint8_t *strip, size_t length, reader_step *steps, size_t *count);
-uint64_t reader_read_all(const uint8_t *strip, size_t length);
-size_t reader_name(uint8_t version, uint8_t id, uint8_t *name, size_t room);
-
 static uint64_t be64(const uint8_t *at) { return (uint64_t)ospf_be32(at) << 32 | ospf_be32(at + 4); }
 
 static void read_value(ospf_entry entry, reader_step *step)

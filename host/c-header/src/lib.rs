@@ -5,7 +5,7 @@
 use std::fmt::Write;
 use std::path::PathBuf;
 
-use ospf_strip::Version;
+use ospf_strip::Version::{self, V2, V3};
 
 /// The lines of the header that stand around the generated part.
 const BEGIN: &str =
@@ -49,11 +49,11 @@ pub fn generated() -> String {
             "How many bytes follow it: id, start and end of every kind but a close, then the value.",
             kinds().map(|(_, (word, body))| (format!("OSPF_BODY_{}", constant(word)), body)),
         ),
-        enumeration("The fields' ids in version 2.", fields(2)),
-        enumeration("The fields' ids in version 3.", fields(3)),
+        enumeration("The fields' ids in version 2.", fields(V2)),
+        enumeration("The fields' ids in version 3.", fields(V3)),
         enumeration("The ids that mean the same in both versions.", both),
-        names(2),
-        names(3),
+        names(V2),
+        names(V3),
         NAME.to_string(),
     ]
     .concat()
@@ -77,7 +77,7 @@ fn enumeration(says: &str, rows: impl IntoIterator<Item = (String, usize)>) -> S
 }
 
 /// The names of a version, as a function.
-fn names(version: u8) -> String {
+fn names(version: Version) -> String {
     let mut out = format!(
         "\nstatic inline const char *ospf_name_v{version}(uint8_t id)\n{{\n    switch (id) {{\n"
     );
@@ -93,27 +93,26 @@ fn names(version: u8) -> String {
 }
 
 /// The fields of a version that are not the same in both.
-fn fields(version: u8) -> impl Iterator<Item = (String, usize)> {
+fn fields(version: Version) -> impl Iterator<Item = (String, usize)> {
     let own = table(version).filter(|&(id, _)| BOTH.iter().all(|row| row.0 != id));
     own.map(move |(id, name)| (enumerator(version, id, name), id.into()))
 }
 
 /// All ids of a version, with the reference's names.
-fn table(version: u8) -> impl Iterator<Item = (u8, &'static str)> {
-    let version = Version::try_from(version).expect("a version");
+fn table(version: Version) -> impl Iterator<Item = (u8, &'static str)> {
     (0..=u8::MAX).filter_map(move |id| Some((id, ospf_strip::name(version, id)?)))
 }
 
 /// The enumerator of a field. A name that a lower id has too says whose field
 /// it is: a link's, a TOS metric's, or a prefix's in a list.
-fn enumerator(version: u8, id: u8, name: &str) -> String {
+fn enumerator(version: Version, id: u8, name: &str) -> String {
     let twice = table(version).any(|(other, its)| other < id && its == name);
     let whose = match (version, id) {
         _ if !twice => "",
         (_, 64..80) => "LINK_",
-        (2, 80..96) => "TOS_",
-        (3, 80..96) if name.starts_with("prefix") => "LIST_",
-        (3, 80..96) => "LIST_PREFIX_",
+        (V2, 80..96) => "TOS_",
+        (V3, 80..96) if name.starts_with("prefix") => "LIST_",
+        (V3, 80..96) => "LIST_PREFIX_",
         _ => panic!("version {version} has {name} twice"),
     };
     format!("OSPF_V{version}_{whose}{}", constant(name))

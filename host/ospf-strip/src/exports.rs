@@ -59,6 +59,12 @@ mod library {
     }
 }
 
+/// The number of a refusal, or 0, and the result of an answer.
+#[must_use]
+pub fn unpack(answer: u64) -> (u8, u32) {
+    ((answer >> 32) as u8, answer as u32)
+}
+
 /// Walks a list of LSA headers.
 #[must_use]
 pub fn ospf_lsa_headers(version: u8, data: &[u8], offset: u64, strip: &mut [u8]) -> u64 {

@@ -3,6 +3,8 @@
 use std::error::Error;
 use std::fmt;
 
+use crate::exports;
+
 /// A refusal of a walk or a comparison.
 #[derive(Clone, Copy, Debug, PartialEq, Eq, Hash)]
 #[non_exhaustive]
@@ -44,8 +46,8 @@ impl Refusal {
 
     /// The result of an export's answer, unless it is a refusal.
     pub(crate) fn unless(answer: u64) -> Result<u32, Refusal> {
-        let result = answer as u32;
-        Err(match (answer >> 32) as u8 {
+        let (number, result) = exports::unpack(answer);
+        Err(match number {
             0 => return Ok(result),
             1 => Refusal::Version,
             2 => Refusal::TooLong,

@@ -39,8 +39,7 @@ impl<'a> Strip<'a> {
         // By the proved step, so that it has the word on what is an entry.
         let mut place = 0;
         loop {
-            let answer = exports::ospf_strip_step(bytes, place);
-            match ((answer >> 32) as u8, answer as u32) {
+            match exports::unpack(exports::ospf_strip_step(bytes, place)) {
                 (0, 0) => return Ok(Strip { version, bytes }),
                 (0, length) => place += length as usize,
                 (7, _) => return Err(DamagedStrip::Kind { place }),

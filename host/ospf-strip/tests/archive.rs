@@ -1,6 +1,9 @@
 //! The build script: which archive it links, and what it says where there is
 //! none.
 
+mod folder;
+
+use folder::folder;
 use std::fs;
 use std::path::{Path, PathBuf};
 use std::process::{Command, Output};
@@ -16,13 +19,6 @@ static SCRIPT: LazyLock<PathBuf> = LazyLock::new(|| {
     assert!(status.expect("rustc").success());
     script
 });
-
-/// A folder of this test's own.
-fn folder(name: &str) -> PathBuf {
-    let folder = Path::new(env!("CARGO_TARGET_TMPDIR")).join(name);
-    fs::create_dir_all(&folder).expect("a folder");
-    folder
-}
 
 /// Runs it for a target, with the override or without; what it prints, and
 /// whether it succeeds.

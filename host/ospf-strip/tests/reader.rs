@@ -17,10 +17,9 @@ use walk::run;
 fn proved(bytes: &[u8]) -> (Vec<usize>, usize, u8) {
     let (mut places, mut place) = (Vec::new(), 0);
     loop {
-        let answer = exports::ospf_strip_step(bytes, place);
-        match answer as u32 {
-            0 => return (places, place, (answer >> 32) as u8),
-            length => {
+        match exports::unpack(exports::ospf_strip_step(bytes, place)) {
+            (number, 0) => return (places, place, number),
+            (_, length) => {
                 places.push(place);
                 place += length as usize;
             }
@@ -77,8 +76,7 @@ fn compare(version: Version, bytes: &[u8]) -> (usize, u8) {
 fn compare_places(bytes: &[u8]) {
     let last = bytes.len() + 2;
     for place in (0..=last).chain([usize::MAX - 30, usize::MAX]) {
-        let answer = exports::ospf_strip_step(bytes, place);
-        let expected = match ((answer >> 32) as u8, answer as u32) {
+        let expected = match exports::unpack(exports::ospf_strip_step(bytes, place)) {
             (0, 0) => Err(0),
             (0, length) => Ok(place + length as usize),
             (number, _) => Err(number),

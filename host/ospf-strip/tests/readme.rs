@@ -1,5 +1,8 @@
 //! The programs of README.md, in Rust, in C and in Python, print what it says.
 
+mod folder;
+
+use folder::folder;
 use std::fs;
 use std::io::Write;
 use std::path::{Path, PathBuf};
@@ -25,13 +28,6 @@ fn block(section: &str, language: &str) -> String {
     let block = blocks.next().expect("a block in that language");
     assert_eq!(blocks.next(), None, "a second block in {language}");
     block.to_string()
-}
-
-/// A folder of this test's own.
-fn folder(name: &str) -> PathBuf {
-    let folder = Path::new(env!("CARGO_TARGET_TMPDIR")).join(name);
-    fs::create_dir_all(&folder).expect("a folder");
-    folder
 }
 
 /// What a command prints, if it succeeds.
