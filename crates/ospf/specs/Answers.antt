@@ -1,25 +1,29 @@
--- The code's answers as the host gets them.
-use Prim.Native.Nat.{ℕ, _-_}
-use Rattle.format.specs.Packed.{word}
+-- What the code's answers say, in the definitions' words.
+use Rattle.format.specs.Header as format-header
+use Rattle.format.specs.Header.Newness.{first, second, same, refused}
+use Rattle.format.specs.Prefix as format-prefix
+use Rattle.format.specs.Strip as format-strip
+use Rattle.format.specs.Strip.Step.{entry, end, refused as not-read}
 use Rattle.header.specs.declared.Newness.{Newness}
 use Rattle.header.specs.declared.Newness.the-variants.{First, Second, Same, Refused}
 use Rattle.tlv.specs.declared.Comparison.{Comparison}
 use Rattle.tlv.specs.declared.Comparison.the-variants as C
+use Rattle.strip_step.specs.Answers.{entryMeaning}
 use Rattle.strip_step.specs.declared.Step.{Step}
 use Rattle.strip_step.specs.declared.Step.the-variants as S
 
-abbrev pub newnessWord : Newness → ℕ
-newnessWord Same = word 0 0
-newnessWord First = word 0 1
-newnessWord Second = word 0 2
-newnessWord (Refused n) = word n 0
+abbrev pub newnessMeaning : Newness → format-header.Newness
+newnessMeaning First = first
+newnessMeaning Second = second
+newnessMeaning Same = same
+newnessMeaning (Refused n) = refused n
 
-abbrev pub comparisonWord : Comparison → ℕ
-comparisonWord C.Same = word 0 1
-comparisonWord C.Different = word 0 0
-comparisonWord (C.Refused n) = word n 0
+abbrev pub comparisonMeaning : Comparison → format-prefix.Comparison
+comparisonMeaning C.Same = format-prefix.Comparison.same
+comparisonMeaning C.Different = format-prefix.Comparison.different
+comparisonMeaning (C.Refused n) = format-prefix.Comparison.refused n
 
-abbrev pub stepWord : (place : ℕ) → Step → ℕ
-stepWord p (S.Entry x next) = word 0 (next - p)
-stepWord p S.End = word 0 0
-stepWord p (S.Refused n) = word n 0
+abbrev pub stepMeaning : Step → format-strip.Step
+stepMeaning (S.Entry x next) = entry (entryMeaning x) next
+stepMeaning S.End = end
+stepMeaning (S.Refused n) = not-read n

@@ -8,7 +8,7 @@ ghost use Rattle.format.specs.Header.{newnessAt};
 ghost use Rattle.format.specs.Prefix.{address, comparison};
 ghost use Rattle.format.specs.Strip.{stepAt};
 ghost use Rattle.format.specs.Packed.{word, packed, packedNewness, packedComparison, packedStep};
-ghost use Rattle.ospf.specs.Answers.{newnessWord, comparisonWord, stepWord};
+ghost use Rattle.ospf.specs.Answers.{newnessMeaning, comparisonMeaning};
 use header::Newness;
 use header::newer_lsa;
 use strip_step::Step;
@@ -93,7 +93,7 @@ pub extern "C" fn ospf_strip_step(strip: &[u8], place: usize) -> u64
 }
 
 fn newness_word(newness: Newness) -> u64
-    ensures { λ r. ⌜ r ≡ newnessWord newness ⌝ }
+    ensures { λ r. ⌜ r ≡ packedNewness (newnessMeaning newness) ⌝ }
 {
     match newness {
         Newness::Same => pack(0, 0),
@@ -104,7 +104,7 @@ fn newness_word(newness: Newness) -> u64
 }
 
 fn comparison_word(comparison: Comparison) -> u64
-    ensures { λ r. ⌜ r ≡ comparisonWord comparison ⌝ }
+    ensures { λ r. ⌜ r ≡ packedComparison (comparisonMeaning comparison) ⌝ }
 {
     match comparison {
         Comparison::Same => pack(0, 1),

@@ -1,4 +1,4 @@
--- The code's answers are packed as those of the definitions; and how long an entry is that a step gives.
+-- The code's answers say what the definitions' do; and how long an entry is that a step gives.
 use Prim.Native.Nat.{ℕ, _-_, _≤_, _<_}
 use native.Mathlib.Omega.{arith}
 use mathlib.Core.Path.{_≡_, refl}
@@ -6,7 +6,7 @@ use mathlib.Core.List.{List}
 use Rattle.format.specs.Header as header
 use Rattle.format.specs.Prefix as prefix
 use Rattle.format.specs.Strip as strip
-use Rattle.format.specs.Packed.{packedNewness, packedComparison, packedStep}
+use Rattle.format.specs.Packed.{packedStep}
 use Rattle.format.proofs.Steps.{steps}
 use Rattle.format.proofs.Comparisons.{entry-small}
 use Rattle.header.specs.Answers.{newnessOf}
@@ -15,23 +15,23 @@ use Rattle.strip_step.specs.Answers.{stepOf}
 use Rattle.strip_step.specs.declared.Entry.{Entry}
 use Rattle.strip_step.specs.declared.Step.{Step}
 use Rattle.strip_step.specs.declared.Step.the-variants as S
-use Rattle.ospf.specs.Answers.{newnessWord, comparisonWord, stepWord}
+use Rattle.ospf.specs.Answers.{newnessMeaning, comparisonMeaning, stepMeaning}
 
-pub newness-word-of : (x : header.Newness) → newnessWord (newnessOf x) ≡ packedNewness x
-newness-word-of header.Newness.first = refl
-newness-word-of header.Newness.second = refl
-newness-word-of header.Newness.same = refl
-newness-word-of (header.Newness.refused n) = refl
+pub newness-meaning : (x : header.Newness) → newnessMeaning (newnessOf x) ≡ x
+newness-meaning header.Newness.first = refl
+newness-meaning header.Newness.second = refl
+newness-meaning header.Newness.same = refl
+newness-meaning (header.Newness.refused n) = refl
 
-pub comparison-word-of : (x : prefix.Comparison) → comparisonWord (comparisonOf x) ≡ packedComparison x
-comparison-word-of prefix.Comparison.same = refl
-comparison-word-of prefix.Comparison.different = refl
-comparison-word-of (prefix.Comparison.refused n) = refl
+pub comparison-meaning : (x : prefix.Comparison) → comparisonMeaning (comparisonOf x) ≡ x
+comparison-meaning prefix.Comparison.same = refl
+comparison-meaning prefix.Comparison.different = refl
+comparison-meaning (prefix.Comparison.refused n) = refl
 
-pub step-word-of : (s : List ℕ) (p : ℕ) {x y : Step} → x ≡ stepOf (strip.stepAt s p) → x ≡ y → stepWord p y ≡ packedStep p (strip.stepAt s p)
-step-word-of s p e f = rw (← f, e) (go (strip.stepAt s p))
+pub step-packed : (s : List ℕ) (p : ℕ) {x y : Step} → x ≡ stepOf (strip.stepAt s p) → x ≡ y → packedStep p (stepMeaning y) ≡ packedStep p (strip.stepAt s p)
+step-packed s p e f = rw (← f, e) (go (strip.stepAt s p))
   where
-    go : (x : strip.Step) → stepWord p (stepOf x) ≡ packedStep p x
+    go : (x : strip.Step) → packedStep p (stepMeaning (stepOf x)) ≡ packedStep p x
     go (strip.Step.entry x q) = refl
     go strip.Step.end = refl
     go (strip.Step.refused n) = refl
