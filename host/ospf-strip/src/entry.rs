@@ -71,6 +71,10 @@ impl From<Value> for u128 {
 /// Where an entry's value begins: after kind, id, start and end.
 const HEAD: usize = 10;
 
+/// How much of a strip `fold` looks at: as much as six entries have, none of
+/// them an IPv6 address, and so more than any of its rows.
+const WINDOW: usize = 6 * (HEAD + 4);
+
 /// An entry's bytes, from its kind on. The kind fixes how many there are, so
 /// whoever holds one reads it without a test.
 #[derive(Clone, Copy, PartialEq, Eq, Hash)]
@@ -83,6 +87,38 @@ enum View<'a> {
     Ipv4(&'a [u8; HEAD + 4]),
     Ipv6(&'a [u8; HEAD + 16]),
     Bytes(&'a [u8; HEAD]),
+}
+
+impl<'a> View<'a> {
+    /// The entry of this kind at the front of the bytes, and what follows it;
+    /// nothing where it does not fit, or there is no such kind.
+    // Each kind takes its own length: so the processor goes on with the next
+    // entry before this one's kind is read, where a table of lengths would
+    // make it wait. Inlined, it is one arm where the kind is known.
+    #[inline(always)]
+    fn first(kind: u8, bytes: &'a [u8]) -> Option<(View<'a>, &'a [u8])> {
+        match kind {
+            1 => split(bytes, View::Open),
+            2 => split(bytes, |_: &[u8; 1]| View::Close),
+            3 => split(bytes, View::U8),
+            4 => split(bytes, View::U16),
+            5 => split(bytes, View::U32),
+            6 => split(bytes, View::Ipv4),
+            7 => split(bytes, View::Ipv6),
+            8 => split(bytes, View::Bytes),
+            _ => None,
+        }
+    }
+}
+
+/// A view of as many bytes as it takes, and the rest. The one test of an entry.
+#[inline(always)]
+fn split<'a, const N: usize>(
+    bytes: &'a [u8],
+    view: impl FnOnce(&'a [u8; N]) -> View<'a>,
+) -> Option<(View<'a>, &'a [u8])> {
+    let (bytes, rest) = bytes.split_first_chunk()?;
+    Some((view(bytes), rest))
 }
 
 /// One entry of a strip: a view of its bytes, which are read when asked for.
@@ -223,60 +259,25 @@ impl<'a> Entries<'a> {
             rest: bytes,
         }
     }
-
-    /// The next bytes, as many as the caller's kind has. The one test of an
-    /// entry.
-    #[inline]
-    fn take<const N: usize>(&mut self) -> Option<&'a [u8; N]> {
-        let (bytes, rest) = self.rest.split_first_chunk()?;
-        self.rest = rest;
-        Some(bytes)
-    }
-
-    /// The same, and the kind of the entry after them; nothing where they are
-    /// the last ones.
-    #[inline(always)]
-    fn pass<const N: usize>(&mut self) -> Option<(&'a [u8; N], u8)> {
-        let (bytes, rest) = self.rest.split_first_chunk()?;
-        let kind = *rest.first()?;
-        self.rest = rest;
-        Some((bytes, kind))
-    }
 }
 
 impl<'a> Iterator for Entries<'a> {
     type Item = Entry<'a>;
 
-    // Each kind adds its own length: so the processor goes on with the next
-    // entry before this one's kind is read, where a table of lengths would
-    // make it wait.
     #[inline]
     fn next(&mut self) -> Option<Entry<'a>> {
-        let view = match *self.rest.first()? {
-            1 => View::Open(self.take()?),
-            2 => {
-                self.take::<1>()?;
-                View::Close
-            }
-            3 => View::U8(self.take()?),
-            4 => View::U16(self.take()?),
-            5 => View::U32(self.take()?),
-            6 => View::Ipv4(self.take()?),
-            7 => View::Ipv6(self.take()?),
-            8 => View::Bytes(self.take()?),
-            _ => return None,
-        };
-        Some(Entry {
-            version: self.version,
-            view,
-        })
+        let version = self.version;
+        let (view, rest) = View::first(*self.rest.first()?, self.rest)?;
+        self.rest = rest;
+        Some(Entry { version, view })
     }
 
-    // A whole strip at once, for `for_each` and what else goes by `fold`. An
-    // arm calls `f` itself and knows that an entry follows; so the compiler
-    // ends each arm with a jump to the next one, in place of a loop around one
-    // `match` (docs/BENCHMARKS.md). Where lists begin and go on, an open is
-    // tried first: by a branch, which is predicted better.
+    // A whole strip at once, for `for_each` and what else goes by `fold`: by
+    // rows of entries that often stand together (docs/BENCHMARKS.md). A row
+    // lies in a window that has been tested to be there, so its entries need
+    // no test of their own. Each arm tests the window and calls `f` itself, so
+    // that the compiler ends it with a jump to the next row. Which rows there
+    // are does not change what is read.
     #[inline]
     fn fold<B, F>(mut self, init: B, mut f: F) -> B
     where
@@ -285,40 +286,54 @@ impl<'a> Iterator for Entries<'a> {
         let version = self.version;
         let mut folded = init;
         let mut kind = self.rest.first().copied().unwrap_or_default();
-        'entries: loop {
-            macro_rules! arm {
-                ($bytes:pat, $view:expr) => {{
-                    let Some(($bytes, next)) = self.pass() else {
-                        break 'entries;
+        loop {
+            let strip = self.rest;
+            // An entry of this kind, and after it one of those, if one is next.
+            macro_rules! row {
+                ($bytes:expr, $kind:ident { $($next:ident $then:tt)* }) => {{
+                    let Some((view, rest)) = View::first(Kind::$kind as u8, $bytes) else {
+                        break;
                     };
-                    let view = $view;
+                    self.rest = &strip[WINDOW - rest.len()..];
                     folded = f(folded, Entry { version, view });
+                    let Some(&next) = rest.first() else {
+                        break;
+                    };
                     kind = next;
+                    $(if kind == Kind::$next as u8 {
+                        row!(rest, $next $then);
+                    } else)* {}
+                }};
+            }
+            macro_rules! rows {
+                ($($row:tt)*) => {{
+                    let Some(window) = strip.first_chunk::<WINDOW>() else {
+                        break;
+                    };
+                    row!(window.as_slice(), $($row)*)
                 }};
             }
             // The kinds are 1 to 8, of which 8 has the low bits 0.
             match kind & 7 {
-                1 => arm!(bytes, View::Open(bytes)),
-                2 => {
-                    arm!([_], View::Close);
-                    if kind == 1 {
-                        arm!(bytes, View::Open(bytes));
-                    }
-                }
-                3 => arm!(bytes, View::U8(bytes)),
-                4 => {
-                    arm!(bytes, View::U16(bytes));
-                    if kind == 1 {
-                        arm!(bytes, View::Open(bytes));
-                    }
-                }
-                5 => arm!(bytes, View::U32(bytes)),
-                6 => arm!(bytes, View::Ipv4(bytes)),
-                7 => arm!(bytes, View::Ipv6(bytes)),
-                _ => arm!(bytes, View::Bytes(bytes)),
+                1 => rows!(Open {
+                    U16 { U16 { U32 {} } U8 { U8 {} } }
+                    U8 { U32 { Close {} } U16 { U32 { U32 {} } } U8 {} }
+                    Ipv4 { Ipv4 {} }
+                }),
+                2 => rows!(Close { Open {} Close {} }),
+                3 => rows!(U8 { U8 {} U16 {} Ipv4 {} }),
+                4 => rows!(U16 { U16 { U32 {} } Close {} Open {} }),
+                5 => rows!(U32 { Close {} U32 {} U16 { U16 {} } }),
+                6 => rows!(Ipv4 {
+                    Ipv4 { U32 { U16 { U16 { Close {} } } } }
+                    U32 { U16 { U16 { Close {} } } }
+                    Close {}
+                }),
+                7 => rows!(Ipv6 { Close {} }),
+                _ => rows!(Bytes {}),
             }
         }
-        // The last entry.
+        // What is left is shorter than a window.
         for entry in self {
             folded = f(folded, entry);
         }

@@ -177,17 +177,46 @@ fn short_strips() {
     assert_eq!(compare(Version::V2, &[]), (0, 0));
 }
 
+/// A strip of entries of these kinds, all else at random.
+fn strip_of(rng: &mut Rng, kinds: impl IntoIterator<Item = u8>) -> Vec<u8> {
+    let mut bytes = Vec::new();
+    for kind in kinds {
+        bytes.push(kind);
+        bytes.extend(rng.bytes(listing::KINDS[usize::from(kind) - 1].1));
+    }
+    bytes
+}
+
 /// Entries chosen at random, in any order: no walk's strip, and well formed.
 #[test]
 fn any_order_of_entries() {
     let rng = &mut Rng::new(11);
     for _ in 0..2_000 {
-        let mut bytes = Vec::new();
-        for _ in 0..rng.below(30) {
-            let kind = rng.below(listing::KINDS.len());
-            bytes.push(kind as u8 + 1);
-            bytes.extend(rng.bytes(listing::KINDS[kind].1));
+        let kinds: Vec<u8> = (0..rng.below(30)).map(|_| 1 + rng.below(8) as u8).collect();
+        assert_eq!(compare(Version::V2, &strip_of(rng, kinds)).1, 0);
+    }
+}
+
+/// What the layouts have in a row (the headers, links, TOS metrics and a
+/// prefix), cut after every entry, at every distance from the strip's end: so
+/// that `fold` takes each row as a whole, in parts, and entry by entry.
+#[test]
+fn rows_near_the_end() {
+    let rows: [&[u8]; 7] = [
+        &[1, 4, 3, 3, 6, 6, 5, 4, 4, 2],
+        &[1, 4, 4, 5, 6, 5, 4, 4, 2],
+        &[1, 6, 6, 3, 3, 4, 2],
+        &[1, 3, 4, 5, 5, 6, 2],
+        &[1, 3, 5, 2],
+        &[1, 3, 3, 5, 6, 5, 2],
+        &[1, 3, 3, 4, 7, 2],
+    ];
+    let rng = &mut Rng::new(12);
+    for row in rows {
+        for (cut, closes) in (1..=row.len()).flat_map(|n| (0..100).map(move |c| (n, c))) {
+            let kinds = row[..cut].iter().copied().chain(vec![2; closes]);
+            let bytes = strip_of(rng, kinds);
+            assert_eq!(compare(Version::V3, &bytes), (cut + closes, 0));
         }
-        assert_eq!(compare(Version::V2, &bytes).1, 0);
     }
 }
