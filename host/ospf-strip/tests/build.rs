@@ -112,22 +112,31 @@ fn edit_during_the_run_is_built() {
     assert!(!runs(&repository));
 }
 
-/// A run that fails shows what `rt` said, and is made again, though the file is there and newer than the sources.
+/// A run that fails shows what `rt` said, but for what it proved, and is made again, though the file is there and newer
+/// than the sources.
 #[test]
 fn failure_is_shown() {
-    let fails =
-        format!("{MAKES}echo 'rt: second NOT PROVED'; echo 'rt: FAILED: second' >&2; exit 1\n");
+    let proves = "echo 'fn first::f: proved'; echo 'rt: first proved (4 s)'; echo 'fn second::f: NOT PROVED'";
+    let fails = format!(
+        "{MAKES}{proves}; echo 'rt: second NOT PROVED'; echo 'rt: FAILED: second' >&2; exit 1\n"
+    );
     let repository = repository("build-fails", &fails);
     for _ in 0..2 {
         let output = build(&repository).output().unwrap();
         assert!(!output.status.success());
         let (stdout, stderr) = texts(&output);
         assert_eq!(stdout, "");
-        assert!(
-            stderr.contains("\nrt: second NOT PROVED\nrt: FAILED: second\n"),
-            "{stderr}"
+        let lines: Vec<_> = stderr.lines().skip(1).collect();
+        assert_eq!(
+            lines,
+            [
+                "proved first, 1 of 2 crates left",
+                "fn second::f: NOT PROVED",
+                "rt: second NOT PROVED",
+                "rt: FAILED: second",
+                "target/bin/second is not built: rt check second failed",
+            ]
         );
-        assert!(!stderr.contains("built target/bin/second in "), "{stderr}");
         assert_eq!(repository.calls(), ["check second"]);
     }
     repository.write("does/check", MAKES);
