@@ -116,9 +116,10 @@ fn edit_during_the_run_is_built() {
 /// than the sources.
 #[test]
 fn failure_is_shown() {
-    let proves = "echo 'fn first::f: proved'; echo 'rt: first proved (4 s)'; echo 'fn second::f: NOT PROVED'";
+    let proves = "echo 'fn first::f: proved'; echo 'logic=proved functions=1'; echo 'rt: first proved (4 s)'";
+    let not = "echo 'fn second::f: not proved'; echo 'logic=not-proved'";
     let fails = format!(
-        "{MAKES}{proves}; echo 'rt: second NOT PROVED'; echo 'rt: FAILED: second' >&2; exit 1\n"
+        "{MAKES}{proves}; {not}; echo 'rt: second NOT PROVED'; echo 'rt: FAILED: second' >&2; exit 1\n"
     );
     let repository = repository("build-fails", &fails);
     for _ in 0..2 {
@@ -131,12 +132,14 @@ fn failure_is_shown() {
             lines,
             [
                 "proved first, 1 of 2 crates left",
-                "fn second::f: NOT PROVED",
+                "fn second::f: not proved",
+                "logic=not-proved",
                 "rt: second NOT PROVED",
                 "rt: FAILED: second",
                 "target/bin/second is not built: rt check second failed",
             ]
         );
+        assert!(!stderr.contains("built target/bin/second in "), "{stderr}");
         assert_eq!(repository.calls(), ["check second"]);
     }
     repository.write("does/check", MAKES);
