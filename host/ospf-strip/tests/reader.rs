@@ -9,6 +9,7 @@ mod walk;
 use c_reader::Step;
 use inputs::{Class, Rng};
 use lines::line;
+use ospf_strip::Kind::{self, Close, Ipv4, Ipv6, Open, U8, U16, U32};
 use ospf_strip::{Buffer, Entry, Strip, Version, exports};
 use walk::run;
 
@@ -199,25 +200,27 @@ fn any_order_of_entries() {
     }
 }
 
-/// What the layouts have in a row (the headers, links, TOS metrics and a
-/// prefix), cut after every entry, at every distance from the strip's end: so
-/// that `fold` takes each row as a whole, in parts, and entry by entry.
+/// What the layouts have in a row: the headers and links of both versions, TOS
+/// metrics of a link and of an external, a prefix.
+const ROWS: [&[Kind]; 7] = [
+    &[Open, U16, U8, U8, Ipv4, Ipv4, U32, U16, U16, Close],
+    &[Open, U16, U16, U32, Ipv4, U32, U16, U16, Close],
+    &[Open, Ipv4, Ipv4, U8, U8, U16, Close],
+    &[Open, U8, U16, U32, U32, Ipv4, Close],
+    &[Open, U8, U32, Close],
+    &[Open, U8, U8, U32, Ipv4, U32, Close],
+    &[Open, U8, U8, U16, Ipv6, Close],
+];
+
+/// Each row cut after every entry, at every distance from the strip's end: so
+/// that `fold` takes it as a whole, in parts, and entry by entry.
 #[test]
 fn rows_near_the_end() {
-    let rows: [&[u8]; 7] = [
-        &[1, 4, 3, 3, 6, 6, 5, 4, 4, 2],
-        &[1, 4, 4, 5, 6, 5, 4, 4, 2],
-        &[1, 6, 6, 3, 3, 4, 2],
-        &[1, 3, 4, 5, 5, 6, 2],
-        &[1, 3, 5, 2],
-        &[1, 3, 3, 5, 6, 5, 2],
-        &[1, 3, 3, 4, 7, 2],
-    ];
     let rng = &mut Rng::new(12);
-    for row in rows {
+    for row in ROWS {
         for (cut, closes) in (1..=row.len()).flat_map(|n| (0..100).map(move |c| (n, c))) {
-            let kinds = row[..cut].iter().copied().chain(vec![2; closes]);
-            let bytes = strip_of(rng, kinds);
+            let kinds = row[..cut].iter().chain(vec![&Close; closes]);
+            let bytes = strip_of(rng, kinds.map(|&kind| kind as u8));
             assert_eq!(compare(Version::V3, &bytes), (cut + closes, 0));
         }
     }
