@@ -245,7 +245,8 @@ impl fmt::Debug for Entry<'_> {
 /// Goes through the entries of a strip.
 ///
 /// Whoever reads all of them reads fastest by [`for_each`](Iterator::for_each)
-/// or [`fold`](Iterator::fold), in about half the time of a `for` loop.
+/// or [`fold`](Iterator::fold): where it was measured, in about half the time
+/// of a `for` loop (docs/BENCHMARKS.md).
 #[derive(Clone, Debug)]
 #[must_use = "an iterator does nothing until it is asked for entries"]
 pub struct Entries<'a> {
