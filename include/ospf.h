@@ -4,9 +4,9 @@
  *
  * What a caller must know of the exports:
  * - A slice is a pointer and a length. The pointer is not null, whatever the length. Data and strip do not overlap.
- * - Nothing else is asked: what does not fit is refused by number. A refused call leaves the strip as it was.
- * - They keep no state, allocate nothing, and write to nothing but the strip_len bytes at strip, so any number of
- *   threads may call them at once, each with a strip of its own.
+ * - Nothing else is asked: what does not fit is refused by number. A refused call leaves what it was lent as it was.
+ * - They keep no state, allocate nothing, and write to nothing but the strip_len bytes at strip, or two bytes of the LSA
+ *   whose checksum is made, so any number of threads may call them at once, each with a strip or an LSA of its own.
  * - A walk takes up to 786,200 bytes of stack (docs/BENCHMARKS.md, "Stack"). A thread of 1 MiB is enough; some
  *   platforms give a thread less unless asked.
  */
@@ -63,6 +63,17 @@ uint64_t ospf_prefix_compare(uint8_t first_length, const uint8_t *first, size_t 
 uint64_t ospf_strip_step(const uint8_t *strip, size_t strip_len, size_t place);
 
 /*
+ * The LS checksum of an LSA (RFC 2328 12.1.7). It covers the lsa_len bytes at lsa but the first two, the LS age, whatever
+ * length the LSA declares. Refused: OSPF_REFUSED_LSA_LENGTH.
+ */
+
+/* Whether it is right: OSPF_CHECKSUM_GOOD or _BAD. */
+uint64_t ospf_lsa_checksum_check(const uint8_t *lsa, size_t lsa_len);
+
+/* Makes it, and writes it to bytes 16 and 17 of the LSA; the answer is these two as a number of 16 bits. */
+uint64_t ospf_lsa_checksum_make(uint8_t *lsa, size_t lsa_len);
+
+/*
  * An export's answer: a number of 64 bits. The low 32 have what was asked, the next 8 the number of a refusal, 0 if
  * there is none, and the rest is zero.
  */
@@ -77,6 +88,9 @@ static inline uint32_t ospf_length(uint64_t answer) { return (uint32_t)answer; }
 /* What a comparison found: OSPF_NEWNESS_.. or OSPF_PREFIX_.., where it was not refused. */
 static inline uint32_t ospf_compared(uint64_t answer) { return (uint32_t)answer; }
 
+/* Whether a checksum is right, from the answer of the check; the checksum, from that of the making; 0 if refused. */
+static inline uint32_t ospf_checksum(uint64_t answer) { return (uint32_t)answer; }
+
 enum {
     OSPF_REFUSED_VERSION = 1,        /* the version is neither 2 nor 3 */
     OSPF_REFUSED_TOO_LONG = 2,       /* more than 65,535 bytes of data */
@@ -87,12 +101,15 @@ enum {
     OSPF_REFUSED_KIND = 7,           /* there is no such kind of entry */
     OSPF_REFUSED_CUT = 8,            /* the strip ends before the entry does */
     OSPF_REFUSED_PREFIX_LENGTH = 10, /* a prefix length above 128 */
-    OSPF_REFUSED_AGE = 11            /* an LS age above 3,600 */
+    OSPF_REFUSED_AGE = 11,           /* an LS age above 3,600 */
+    OSPF_REFUSED_LSA_LENGTH = 13     /* fewer than 20 bytes of an LSA whose checksum is asked for, or more than 65,535 */
 };
 
 enum { OSPF_NEWNESS_SAME = 0, OSPF_NEWNESS_FIRST = 1, OSPF_NEWNESS_SECOND = 2 };
 
 enum { OSPF_PREFIX_DIFFERENT = 0, OSPF_PREFIX_SAME = 1 };
+
+enum { OSPF_CHECKSUM_BAD = 0, OSPF_CHECKSUM_GOOD = 1 };
 
 /* Generated from here on: `cargo run --offline -p c-header` in host/ writes it anew. */
 

@@ -1,7 +1,7 @@
 /*
  * Calls each export of libospf.a from C, through include/ospf.h: each walk on an example input, its whole strip, the
- * bytes past it, and the strip read by ospf_step beside the proved step; the comparisons; and the refusals. The last
- * line is "c: N checks passed"; the exit status is 0 only where all passed.
+ * bytes past it, and the strip read by ospf_step beside the proved step; the comparisons; the LS checksum; and the
+ * refusals. The last line is "c: N checks passed"; the exit status is 0 only where all passed.
  */
 #include <stdio.h>
 #include <string.h>
@@ -181,6 +181,30 @@ static void prefixes(void)
     check(ospf_prefix_compare(36, first, 8, 129, first, 8) == refused(OSPF_REFUSED_PREFIX_LENGTH, 0), "129, second");
 }
 
+/* The first LSA of examples/update-v2.bin, as a router made it: checked, damaged, made again; and the lengths. */
+static void checksums(void)
+{
+    const uint8_t published[48] = {0x00, 0x02, 0x02, 0x01, 0xC0, 0xA8, 0xAA, 0x03, 0xC0, 0xA8, 0xAA, 0x03, 0x80, 0x00, 0x00, 0x01,
+                                   0x3A, 0x9C, 0x00, 0x30, 0x02, 0x00, 0x00, 0x02, 0xC0, 0xA8, 0xAA, 0x00, 0xFF, 0xFF, 0xFF, 0x00,
+                                   0x03, 0x00, 0x00, 0x0A, 0xC0, 0xA8, 0xAA, 0x00, 0xFF, 0xFF, 0xFF, 0x00, 0x03, 0x00, 0x00, 0x0A};
+    static uint8_t longest[65536];
+    uint8_t lsa[48];
+    memcpy(lsa, published, sizeof lsa);
+    check(ospf_lsa_checksum_check(lsa, 48) == OSPF_CHECKSUM_GOOD, "a router's checksum");
+    lsa[47]++;
+    check(ospf_lsa_checksum_check(lsa, 48) == OSPF_CHECKSUM_BAD, "a damaged LSA");
+    lsa[47]--, lsa[16] = 0, lsa[17] = 0, lsa[1]++;
+    check(ospf_checksum(ospf_lsa_checksum_make(lsa, 48)) == 0x3A9C, "the checksum, made again");
+    lsa[1]--;
+    check(memcmp(lsa, published, sizeof lsa) == 0, "two bytes are written");
+    check(ospf_lsa_checksum_check(lsa, 19) == refused(OSPF_REFUSED_LSA_LENGTH, 0), "19 bytes checked");
+    check(ospf_lsa_checksum_make(lsa, 19) == refused(OSPF_REFUSED_LSA_LENGTH, 0), "19 bytes made");
+    check(memcmp(lsa, published, sizeof lsa) == 0, "nothing is written");
+    check(ospf_lsa_checksum_make(longest, 65535) == 0xFFFF, "65,535 bytes made");
+    check(ospf_checksum(ospf_lsa_checksum_check(longest, 65535)) == OSPF_CHECKSUM_GOOD, "65,535 bytes checked");
+    check(ospf_lsa_checksum_check(longest, 65536) == refused(OSPF_REFUSED_LSA_LENGTH, 0), "65,536 bytes checked");
+}
+
 /* What is no walk's strip: every byte as a kind, and every entry cut at every byte. */
 static void steps(void)
 {
@@ -225,6 +249,7 @@ int main(void)
     single();
     newness();
     prefixes();
+    checksums();
     steps();
     refusals();
     printf("c: %d checks passed\n", passed);

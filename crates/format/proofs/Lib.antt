@@ -18,6 +18,8 @@ pub mod Sizes
 pub mod Decided
 pub mod Newness
 pub mod Newer
+pub mod Checksum
+pub mod Fletcher
 pub mod Text
 pub mod Fields
 pub mod Layouts2
@@ -33,6 +35,7 @@ pub mod Shown
 pub mod Walks
 pub mod Host
 pub mod Comparisons
+pub mod Checksums
 pub mod Refusals
 pub mod Steps
 pub mod LaidWalks

@@ -1,12 +1,13 @@
 -- What the host's one number says: of a walk, with the lent buffer before and after the call; of newness, of the prefix
--- comparison, and of a step. The requirements as whoever calls an export sees them.
-use Prim.Native.Nat.{ℕ, _+_, _/_, _%_, _≤_, _<_}
+-- comparison, and of a step; of the LS checksum's check and making. The requirements as whoever calls an export sees them.
+use Prim.Native.Nat.{ℕ, _+_, _*_, _/_, _%_, _≤_, _<_}
 use mathlib.Core.Path.{_≡_}
 use mathlib.Core.Logic.{_↔_, _⊎_}
 use mathlib.Core.List.{List, _++_}
 use lib.ListN.{length, getD, take, drop, replicate}
 use Rattle.format.specs.Header.{headerAt}
 use Rattle.format.specs.Newer.{Newer}
+use Rattle.format.specs.Fletcher.{NoLsa, Lsa, Good, Made}
 use Rattle.format.specs.Refusals.{Numbers, NewnessRefusals, Kind, entryEnd}
 use Rattle.format.specs.Shown.{HeadersShow, UpdateShows, OneShows}
 
@@ -71,4 +72,20 @@ pub record StepHost (s : List ℕ) (p r : ℕ) : Type 0 where
   pub ends : ((numberIn r ≡ 0) × (resultIn r ≡ 0)) ↔ (p ≡ length s)
   pub gives : (0 < resultIn r) ↔ ((p < length s) × Kind (getD s p 0) × (entryEnd s p ≤ length s))
   pub next : 0 < resultIn r → p + resultIn r ≡ entryEnd s p
+  pub other-bits : r / 1099511627776 ≡ 0
+
+-- Whether the LS checksum of an LSA is right.
+pub record CheckHost (lsa : List ℕ) (r : ℕ) : Type 0 where
+  pub thirteen : (numberIn r ≡ 13) ↔ NoLsa lsa
+  pub zero : (numberIn r ≡ 0) ↔ Lsa lsa
+  pub good : (resultIn r ≡ 1) ↔ (Lsa lsa × Good lsa)
+  pub no-other : resultIn r ≤ 1
+  pub other-bits : r / 1099511627776 ≡ 0
+
+-- The making of one, with the lent LSA before and after the call. The result is the bytes 16 and 17 as they were written.
+pub record MakeHost (before after : List ℕ) (r : ℕ) : Type 0 where
+  pub thirteen : (numberIn r ≡ 13) ↔ NoLsa before
+  pub zero : (numberIn r ≡ 0) ↔ Lsa before
+  pub makes : numberIn r ≡ 0 → Made before after × (resultIn r ≡ getD after 16 0 * 256 + getD after 17 0)
+  pub left : numberIn r ≡ 13 → (after ≡ before) × (resultIn r ≡ 0)
   pub other-bits : r / 1099511627776 ≡ 0

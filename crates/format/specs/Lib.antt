@@ -6,6 +6,7 @@ pub mod Prefix
 pub mod Layout
 pub mod Cut
 pub mod Header
+pub mod Checksum
 pub mod Body
 pub mod V2
 pub mod V3
@@ -22,4 +23,5 @@ pub mod Lists
 pub mod Shown
 pub mod Refusals
 pub mod Newer
+pub mod Fletcher
 pub mod Host

@@ -6,6 +6,9 @@ use Rattle.format.specs.Prefix.{Comparison}
 use Rattle.format.specs.Prefix.Comparison.{same as same-prefix, different, refused as incomparable}
 use Rattle.format.specs.Header.{Newness}
 use Rattle.format.specs.Header.Newness.{first, second, same, refused}
+use Rattle.format.specs.Checksum.{Check, Making}
+use Rattle.format.specs.Checksum.Check.{good, bad, refused as no-lsa}
+use Rattle.format.specs.Checksum.Making.{made, refused as not-made}
 use Rattle.format.specs.Walks.{Answer}
 
 abbrev pub word : (number result : ℕ) → ℕ
@@ -33,3 +36,13 @@ abbrev pub packedStep : (place : ℕ) → Step → ℕ
 packedStep p (entry x next) = word 0 (next - p)
 packedStep p end = word 0 0
 packedStep p (not-read n) = word n 0
+
+-- The check of an LS checksum: whether it is right; and its making: the two bytes that were written.
+abbrev pub packedCheck : Check → ℕ
+packedCheck good = word 0 1
+packedCheck bad = word 0 0
+packedCheck (no-lsa n) = word n 0
+
+abbrev pub packedMaking : Making → ℕ
+packedMaking (made x y) = word 0 (x * 256 + y)
+packedMaking (not-made n) = word n 0

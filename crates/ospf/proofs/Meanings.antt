@@ -6,11 +6,17 @@ use mathlib.Core.List.{List}
 use Rattle.format.specs.Header as header
 use Rattle.format.specs.Prefix as prefix
 use Rattle.format.specs.Strip as strip
-use Rattle.format.specs.Packed.{packedStep}
+use Rattle.format.specs.Checksum as checksum
+use Rattle.format.specs.Packed.{word, packedStep, packedCheck, packedMaking}
 use Rattle.format.proofs.Steps.{steps}
 use Rattle.format.proofs.Comparisons.{entry-small}
 use Rattle.header.specs.Answers.{newnessOf}
 use Rattle.tlv.specs.Answers.{comparisonOf}
+use Rattle.checksum.specs.Answers.{checkOf, makingOf}
+use Rattle.checksum.specs.declared.Check.{Check}
+use Rattle.checksum.specs.declared.Check.the-variants as C
+use Rattle.checksum.specs.declared.Making.{Making}
+use Rattle.checksum.specs.declared.Making.the-variants as M
 use Rattle.strip_step.specs.Answers.{stepOf}
 use Rattle.strip_step.specs.declared.Entry.{Entry}
 use Rattle.strip_step.specs.declared.Step.{Step}
@@ -27,6 +33,31 @@ pub comparison-meaning : (x : prefix.Comparison) → comparisonMeaning (comparis
 comparison-meaning prefix.Comparison.same = refl
 comparison-meaning prefix.Comparison.different = refl
 comparison-meaning (prefix.Comparison.refused n) = refl
+
+-- The code's answers of the checksum, packed.
+abbrev checkWord : Check → ℕ
+checkWord C.Good = word 0 1
+checkWord C.Bad = word 0 0
+checkWord (C.Refused n) = word n 0
+
+pub check-packed : (lsa : List ℕ) {x y : Check} → x ≡ checkOf (checksum.check lsa) → x ≡ y → checkWord y ≡ packedCheck (checksum.check lsa)
+check-packed lsa e f = rw (← f, e) (go (checksum.check lsa))
+  where
+    go : (c : checksum.Check) → checkWord (checkOf c) ≡ packedCheck c
+    go checksum.Check.good = refl
+    go checksum.Check.bad = refl
+    go (checksum.Check.refused n) = refl
+
+abbrev makingWord : Making → ℕ
+makingWord (M.Made field) = word 0 field
+makingWord (M.Refused n) = word n 0
+
+pub making-packed : (lsa : List ℕ) {x y : Making} → x ≡ makingOf (checksum.making lsa) → x ≡ y → makingWord y ≡ packedMaking (checksum.making lsa)
+making-packed lsa e f = rw (← f, e) (go (checksum.making lsa))
+  where
+    go : (m : checksum.Making) → makingWord (makingOf m) ≡ packedMaking m
+    go (checksum.Making.made x y) = refl
+    go (checksum.Making.refused n) = refl
 
 pub step-packed : (s : List ℕ) (p : ℕ) {x y : Step} → x ≡ stepOf (strip.stepAt s p) → x ≡ y → packedStep p (stepMeaning y) ≡ packedStep p (strip.stepAt s p)
 step-packed s p e f = rw (← f, e) (go (strip.stepAt s p))

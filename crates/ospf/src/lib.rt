@@ -7,8 +7,13 @@ ghost use Rattle.format.specs.Walks.{headersOf, updateOf, lsaOf, answerOf, stri
 ghost use Rattle.format.specs.Header.{newnessAt};
 ghost use Rattle.format.specs.Prefix.{address, comparison};
 ghost use Rattle.format.specs.Strip.{stepAt};
-ghost use Rattle.format.specs.Packed.{word, packed, packedNewness, packedComparison, packedStep};
+ghost use Rattle.format.specs.Checksum.{check, making, madeLsa};
+ghost use Rattle.format.specs.Packed.{word, packed, packedNewness, packedComparison, packedStep, packedCheck, packedMaking};
 ghost use Rattle.ospf.specs.Answers.{newnessMeaning, comparisonMeaning};
+use checksum::Check;
+use checksum::Making;
+use checksum::check_checksum;
+use checksum::make_checksum;
 use header::Newness;
 use header::newer_lsa;
 use strip_step::Step;
@@ -89,6 +94,30 @@ pub extern "C" fn ospf_strip_step(strip: &[u8], place: usize) -> u64
         Step::Entry(_, next) => pack(0, next - place),
         Step::End => pack(0, 0),
         Step::Refused(n) => pack(n, 0),
+    }
+}
+
+// Whether the LS checksum of an LSA is right: 1 or 0.
+#[no_mangle]
+pub extern "C" fn ospf_lsa_checksum_check(lsa: &[u8]) -> u64
+    ensures { λ r. ⌜ r ≡ packedCheck (check (now (lsa .entry))) ⌝ }
+{
+    match check_checksum(lsa) {
+        Check::Good => pack(0, 1),
+        Check::Bad => pack(0, 0),
+        Check::Refused(n) => pack(n, 0),
+    }
+}
+
+// Makes the LS checksum of an LSA and writes it there: its two bytes, as a number of 16 bits.
+#[no_mangle]
+pub extern "C" fn ospf_lsa_checksum_make(lsa: &mut [u8]) -> u64
+    ensures { λ r. ⌜ r ≡ packedMaking (making (now (lsa .entry))) ⌝ }
+    ensures { λ r. ⌜ now (lsa .exit) ≡ madeLsa (making (now (lsa .entry))) (now (lsa .entry)) ⌝ }
+{
+    match make_checksum(lsa) {
+        Making::Made(field) => pack(0, field as usize),
+        Making::Refused(n) => pack(n, 0),
     }
 }
 

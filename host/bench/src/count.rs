@@ -12,22 +12,28 @@ use crate::Load;
 /// Instructions of one pass over a kind at this size; none where valgrind is
 /// not there.
 pub fn instructions(kind: Kind, size: usize, way: Way) -> Option<u64> {
+    let kind = KINDS.iter().position(|&k| k == kind)?;
+    let way = WAYS.iter().position(|&w| w == way)?;
+    of_a_pass("count", &[kind, size, way])
+}
+
+/// Instructions of one pass, where this program makes as many as its last
+/// number says when it is called with this word and these numbers.
+pub fn of_a_pass(word: &str, numbers: &[usize]) -> Option<u64> {
     // What is no pass is the same in both runs. The first pass may find the
     // memory as no later one does.
-    let few = collected(kind, size, way, 2)?;
-    let more = collected(kind, size, way, 4)?;
+    let few = collected(word, numbers, 2)?;
+    let more = collected(word, numbers, 4)?;
     Some((more - few) / 2)
 }
 
 /// What callgrind says of a run of so many passes.
-fn collected(kind: Kind, size: usize, way: Way, passes: usize) -> Option<u64> {
-    let kind = KINDS.iter().position(|&k| k == kind)?;
-    let way = WAYS.iter().position(|&w| w == way)?;
+fn collected(word: &str, numbers: &[usize], passes: usize) -> Option<u64> {
     let output = Command::new("valgrind")
         .args(["--tool=callgrind", "--callgrind-out-file=/dev/null"])
         .arg(env::current_exe().ok()?)
-        .arg("count")
-        .args([kind, size, way, passes].map(|n| n.to_string()))
+        .arg(word)
+        .args(numbers.iter().chain([&passes]).map(|n| n.to_string()))
         .output()
         .ok()?;
     let text = String::from_utf8_lossy(&output.stderr);

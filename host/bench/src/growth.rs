@@ -3,7 +3,7 @@
 use bench::Way;
 use bench::corpus::{KINDS, Kind};
 
-use crate::{Load, MOST, count, time};
+use crate::{Load, MOST, count};
 
 const SIZES: [usize; 7] = [1_024, 2_048, 4_096, 8_192, 16_384, 32_768, MOST];
 
@@ -18,7 +18,7 @@ pub fn print(rounds: usize) {
         for size in SIZES {
             let mut load = Load::new(kind.inputs(size));
             let bytes = load.bytes() as f64;
-            let [time] = time::medians(&mut load, [Way::Port], rounds);
+            let [time] = load.medians([Way::Port], rounds);
             print!(" |{:6.3}", time / bytes);
             match count::instructions(kind, size, Way::Port) {
                 Some(n) => print!("{:6.2}", n as f64 / bytes),

@@ -1,8 +1,11 @@
 //! Runs the port, careful Rust and the reference over one corpus and prints
-//! what each takes, and what reading every field adds: `bench [ROUNDS]`; the
-//! latter on a corpus of another seed: `bench reading ROUNDS SEED`. The other
-//! words are what it calls itself with, under valgrind: `count` and `stack`.
+//! what each takes, what reading every field adds, and what the LS checksum
+//! takes: `bench [ROUNDS]`; reading on a corpus of another seed: `bench reading
+//! ROUNDS SEED`; the checksum alone: `bench checksums ROUNDS`. The other words
+//! are what it calls itself with, under valgrind: `count`, `checksum` and
+//! `stack`.
 
+mod checksums;
 mod count;
 mod growth;
 mod reading;
@@ -48,6 +51,12 @@ impl Load {
     fn bytes(&self) -> usize {
         self.inputs.iter().map(|input| input.data.len()).sum()
     }
+
+    /// The median time of one pass each way, in nanoseconds.
+    fn medians<const N: usize>(&mut self, ways: [Way; N], rounds: usize) -> [f64; N] {
+        let runs = ways.map(|way| move |load: &mut Load| load.run(way));
+        time::medians(self, runs, rounds)
+    }
 }
 
 fn main() -> ExitCode {
@@ -59,9 +68,14 @@ fn main() -> ExitCode {
     match words.as_slice() {
         [] => all(ROUNDS),
         ["count", rest @ ..] => return count::child(rest),
+        ["checksum", rest @ ..] => return checksums::child(rest),
         ["stack"] => stack::child(),
         ["reading", rounds, seed] => match (rounds.parse(), seed.parse()) {
             (Ok(rounds @ 1..), Ok(seed)) => reading::print_seeded(rounds, seed),
+            _ => return usage(),
+        },
+        ["checksums", rounds] => match rounds.parse() {
+            Ok(rounds @ 1..) => checksums::print(rounds),
             _ => return usage(),
         },
         [rounds] => match rounds.parse() {
@@ -74,7 +88,7 @@ fn main() -> ExitCode {
 }
 
 fn usage() -> ExitCode {
-    eprintln!("usage: bench [ROUNDS], or bench reading ROUNDS SEED");
+    eprintln!("usage: bench [ROUNDS], bench reading ROUNDS SEED, or bench checksums ROUNDS");
     ExitCode::from(2)
 }
 
@@ -89,6 +103,8 @@ fn all(rounds: usize) {
     reading::print(rounds);
     println!();
     growth::print(rounds);
+    println!();
+    checksums::print(rounds);
     println!();
     stack::print();
 }
@@ -106,7 +122,7 @@ fn heading() {
 fn row(kind: Kind, rounds: usize) {
     let mut load = Load::new(kind.inputs(MOST));
     print!("{:26}{:>7} |", kind.name(), load.bytes());
-    figures(time::medians(&mut load, WALKS, rounds).map(|ns| ns / 1e3));
+    figures(load.medians(WALKS, rounds).map(|ns| ns / 1e3));
     print!(" |");
     match WALKS.map(|way| count::instructions(kind, MOST, way)) {
         [Some(port), Some(careful), Some(reference)] => {

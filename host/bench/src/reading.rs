@@ -4,7 +4,7 @@
 use bench::READERS;
 use bench::corpus::{KINDS, Kind};
 
-use crate::{Load, MOST, count, time};
+use crate::{Load, MOST, count};
 
 pub fn print(rounds: usize) {
     println!("the walk, and the walk with every field read: microseconds, medians of {rounds}");
@@ -22,7 +22,7 @@ pub fn print(rounds: usize) {
 fn row(kind: Kind, rounds: usize) {
     let mut load = Load::new(kind.inputs(MOST));
     print!("{:26}{:>8} |", kind.name(), entries(&mut load));
-    let [walk, readers @ ..] = time::medians(&mut load, READERS, rounds);
+    let [walk, readers @ ..] = load.medians(READERS, rounds);
     print!("{:7.1}", walk / 1e3);
     readers.iter().for_each(|ns| print!("{:8.1}", ns / 1e3));
     readers.iter().for_each(|ns| print!("{:8.2}", ns / walk));
@@ -50,7 +50,7 @@ pub fn print_seeded(rounds: usize, seed: u64) {
     println!("seed {seed}: microseconds of the walk, then its ratios: Rust, for, C");
     for kind in KINDS.into_iter().filter(|&kind| kind != Kind::Captures) {
         let mut load = Load::new(kind.seeded(MOST, seed));
-        let [walk, readers @ ..] = time::medians(&mut load, READERS, rounds);
+        let [walk, readers @ ..] = load.medians(READERS, rounds);
         print!("{:26}{:7.1}", kind.name(), walk / 1e3);
         readers.iter().for_each(|ns| print!("{:8.2}", ns / walk));
         println!();

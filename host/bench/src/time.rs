@@ -3,16 +3,16 @@
 use std::hint::black_box;
 use std::time::{Duration, Instant};
 
-use bench::Way;
-
-use crate::Load;
-
 /// How long one sample takes at least.
 const SAMPLE: Duration = Duration::from_micros(500);
 
 /// The median time of one pass over the load, in nanoseconds, each way. The
 /// ways take turns, so that what else the machine does meets all of them.
-pub fn medians<const N: usize>(load: &mut Load, ways: [Way; N], rounds: usize) -> [f64; N] {
+pub fn medians<L, const N: usize>(
+    load: &mut L,
+    ways: [impl Fn(&mut L) -> u64 + Copy; N],
+    rounds: usize,
+) -> [f64; N] {
     let passes = ways.map(|way| passes(load, way));
     let mut samples = ways.map(|_| Vec::with_capacity(rounds));
     for _ in 0..rounds {
@@ -24,7 +24,7 @@ pub fn medians<const N: usize>(load: &mut Load, ways: [Way; N], rounds: usize) -
 }
 
 /// How many passes make a sample.
-fn passes(load: &mut Load, way: Way) -> u32 {
+fn passes<L>(load: &mut L, way: impl Fn(&mut L) -> u64 + Copy) -> u32 {
     let mut passes = 1;
     while sample(load, way, passes) * f64::from(passes) < SAMPLE.as_nanos() as f64 {
         passes *= 2;
@@ -33,10 +33,10 @@ fn passes(load: &mut Load, way: Way) -> u32 {
 }
 
 /// The time of one pass, from so many.
-fn sample(load: &mut Load, way: Way, passes: u32) -> f64 {
+fn sample<L>(load: &mut L, way: impl Fn(&mut L) -> u64, passes: u32) -> f64 {
     let start = Instant::now();
     for _ in 0..passes {
-        black_box(black_box(&mut *load).run(way));
+        black_box(way(black_box(&mut *load)));
     }
     start.elapsed().as_nanos() as f64 / f64::from(passes)
 }

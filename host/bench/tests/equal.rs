@@ -1,5 +1,7 @@
-//! The hand-written walks give the port's answers and strips.
+//! The hand-written walks give the port's answers and strips, and the
+//! hand-written checksums those of the second implementation.
 
+use bench::careful::checksum::{CAREFUL as WORDS, PLAIN};
 use bench::corpus::{KINDS, worst};
 use bench::{CAREFUL, PORT};
 use inputs::{CLASSES, Input};
@@ -41,5 +43,14 @@ fn on_generated_inputs() {
             inputs += 1;
         });
         assert!(inputs > 0, "{class:?}");
+    }
+}
+
+#[test]
+fn checksums() {
+    for of in [WORDS, PLAIN] {
+        let lengths = (0..2_000).chain(65_500..65_540);
+        let counts = checksum::compare(of, 9, lengths).expect("no difference");
+        assert_eq!(counts.made, 1_980 + 36);
     }
 }

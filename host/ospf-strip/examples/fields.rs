@@ -2,12 +2,13 @@
 //!
 //! The file holds the OSPF version (2 or 3), the walk (0 a list of LSA
 //! headers, 1 the body of a Link State Update, 2 a single LSA), and the data.
+//! Beside the LS checksum of a whole LSA stands whether it is right.
 
 use std::env;
 use std::fs;
 use std::process::ExitCode;
 
-use ospf_strip::{Buffer, Entry, Kind, Refusal, Strip, Version};
+use ospf_strip::{Buffer, Entry, Kind, Refusal, Strip, Version, checksum_is_good};
 
 /// The most bytes of input, as of the program `dissect`.
 const MAX_INPUT: usize = 2_050;
@@ -29,7 +30,7 @@ fn main() -> ExitCode {
         return ExitCode::FAILURE;
     }
     match run(&mut Buffer::new(), &input) {
-        Ok(strip) => print(strip),
+        Ok(strip) => print(strip, &input),
         // The length needed is 0: the buffer grows to what a walk needs.
         Err(number) => println!("refused {number} 0"),
     }
@@ -62,23 +63,35 @@ fn run<'a>(buffer: &'a mut Buffer, input: &[u8]) -> Result<Strip<'a>, u8> {
 }
 
 /// A line an entry: name, byte range, value; indented by its containers.
-fn print(strip: Strip) {
+fn print(strip: Strip, input: &[u8]) {
+    let data = input.get(2..).unwrap_or_default();
+    // The LSA that is being printed, if it is a whole one; a single LSA is all the data.
+    let mut lsa = (input.get(1) == Some(&2)).then_some(data);
     let mut depth = 0;
     for entry in strip {
         if entry.kind() == Kind::Close {
             depth -= 1;
             continue;
         }
-        println!("{:1$}{2}", "", 2 * depth, line(&entry));
+        if entry.name() == Some("lsa") {
+            lsa = entry.part(data, 0).ok();
+        }
+        println!("{:1$}{2}", "", 2 * depth, line(&entry, lsa));
         if entry.kind() == Kind::Open {
             depth += 1;
         }
     }
 }
 
-fn line(entry: &Entry) -> String {
+fn line(entry: &Entry, lsa: Option<&[u8]>) -> String {
     let name = entry.name().unwrap_or("?");
     let range = entry.range().unwrap_or_default();
     let value = entry.value().map(|v| format!(" = {v}")).unwrap_or_default();
-    format!("{name} [{}..{}]{value}", range.start, range.end)
+    let lsa = lsa.filter(|_| name == "ls_checksum");
+    let checked = match lsa.map(checksum_is_good) {
+        Some(Ok(true)) => ", good",
+        Some(Ok(false)) => ", bad",
+        _ => "",
+    };
+    format!("{name} [{}..{}]{value}{checked}", range.start, range.end)
 }

@@ -9,10 +9,11 @@
 /// over as a pointer and a length.
 ///
 /// They are proved to end, to read only the bytes of the slices, to write
-/// only to those of `strip`, and to keep no pointer. They neither unwind nor
-/// allocate, and have no state. What they ask of their caller is what a
-/// slice's reference is: a pointer that is not null, for that many bytes that
-/// stay as they are for the call, and a `strip` that overlaps nothing else.
+/// only to those of `strip` and to the LSA whose checksum is made, and to keep
+/// no pointer. They neither unwind nor allocate, and have no state. What they
+/// ask of their caller is what a slice's reference is: a pointer that is not
+/// null, for that many bytes that stay as they are for the call; what is
+/// written to overlaps nothing else.
 mod library {
     unsafe extern "C" {
         pub unsafe fn ospf_lsa_headers(
@@ -56,6 +57,8 @@ mod library {
             second_len: usize,
         ) -> u64;
         pub unsafe fn ospf_strip_step(strip: *const u8, strip_len: usize, place: usize) -> u64;
+        pub unsafe fn ospf_lsa_checksum_check(lsa: *const u8, lsa_len: usize) -> u64;
+        pub unsafe fn ospf_lsa_checksum_make(lsa: *mut u8, lsa_len: usize) -> u64;
     }
 }
 
@@ -123,4 +126,21 @@ pub fn ospf_prefix_compare(
 pub fn ospf_strip_step(strip: &[u8], place: usize) -> u64 {
     // SAFETY: as in `ospf_newness`, of one slice. The place may be any number.
     unsafe { library::ospf_strip_step(strip.as_ptr(), strip.len(), place) }
+}
+
+/// Whether the LS checksum of an LSA is right.
+#[must_use]
+pub fn ospf_lsa_checksum_check(lsa: &[u8]) -> u64 {
+    // SAFETY: as in `ospf_newness`, of one slice.
+    unsafe { library::ospf_lsa_checksum_check(lsa.as_ptr(), lsa.len()) }
+}
+
+/// Makes the LS checksum of an LSA.
+#[must_use]
+pub fn ospf_lsa_checksum_make(lsa: &mut [u8]) -> u64 {
+    // SAFETY: the pointer is that of a reference to a slice of this length,
+    // borrowed alone for the call: so it is not null, and overlaps nothing.
+    // The export reads and writes those bytes and no others, and keeps no
+    // pointer.
+    unsafe { library::ospf_lsa_checksum_make(lsa.as_mut_ptr(), lsa.len()) }
 }

@@ -5,6 +5,9 @@
 //! or over a single LSA. The walk gives back a [`Strip`], whose entries say
 //! for each field its kind, its id, its place in the packet and its value.
 //! [`lsa_headers`], [`lsu_lsas`] and [`lsa`] write into bytes of the caller's.
+//! Beside the walks, [`newness`] and [`same_prefix`] compare two LSAs and two
+//! prefixes, and [`checksum_is_good`] and [`make_checksum`] check the checksum
+//! of an LSA and make it.
 //!
 //! ```
 //! use ospf_strip::{Buffer, Refusal, Value, Version};
@@ -37,6 +40,7 @@
 //! takes up to 786,200 bytes of stack (docs/BENCHMARKS.md), which the threads
 //! of the standard library have.
 
+mod checksum;
 mod comparisons;
 mod entry;
 pub mod exports;
@@ -46,6 +50,7 @@ mod strip;
 mod version;
 mod walks;
 
+pub use checksum::{checksum_is_good, make_checksum};
 pub use comparisons::{Newness, newness, same_prefix};
 pub use entry::{Entries, Entry, Kind, Value};
 pub use names::{label, name};

@@ -5,7 +5,7 @@ use std::fmt;
 
 use crate::exports;
 
-/// A refusal of a walk or a comparison.
+/// A refusal of a walk, a comparison or a checksum.
 #[derive(Clone, Copy, Debug, PartialEq, Eq, Hash)]
 #[non_exhaustive]
 pub enum Refusal {
@@ -27,6 +27,9 @@ pub enum Refusal {
     PrefixLength,
     /// 11: an age is above 3,600.
     Age,
+    /// 13: fewer than 20 bytes of an LSA whose checksum is asked for, or more
+    /// than 65,535.
+    LsaLength,
 }
 
 impl Refusal {
@@ -41,6 +44,7 @@ impl Refusal {
             Refusal::Room { .. } => 5,
             Refusal::PrefixLength => 10,
             Refusal::Age => 11,
+            Refusal::LsaLength => 13,
         }
     }
 
@@ -58,6 +62,7 @@ impl Refusal {
             },
             10 => Refusal::PrefixLength,
             11 => Refusal::Age,
+            13 => Refusal::LsaLength,
             number => unreachable!("no export answers refusal {number} here"),
         })
     }
@@ -73,6 +78,7 @@ impl fmt::Display for Refusal {
             Refusal::Room { needed } => write!(f, "the strip takes {needed} bytes"),
             Refusal::PrefixLength => f.write_str("the length of a prefix is above 128"),
             Refusal::Age => f.write_str("an age is above 3,600"),
+            Refusal::LsaLength => f.write_str("an LSA has 20 to 65,535 bytes"),
         }
     }
 }

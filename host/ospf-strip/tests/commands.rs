@@ -134,6 +134,39 @@ fn refusals_agree() {
     }
 }
 
+/// Beside the LS checksum of a whole LSA stands whether it is right; of a header alone nothing is said.
+#[test]
+fn checksums_are_checked() {
+    built();
+    let checksums = |path: &str| {
+        let text = printed("fields", &[path], Stdio::null());
+        let lines = text.lines().map(str::trim_start);
+        let lines = lines.filter(|line| line.starts_with("ls_checksum "));
+        lines.map(str::to_string).collect::<Vec<_>>()
+    };
+    let update = fs::read(top().join("examples/update-v2.bin")).unwrap();
+    let good = checksums("examples/update-v2.bin");
+    assert_eq!(good.len(), 7);
+    assert_eq!(good[0], "ls_checksum [20..22] = 15004, good");
+    assert!(good.iter().all(|line| line.ends_with(", good")), "{good:?}");
+    // The first LSA takes the bytes 4 to 52 of the data, two after the input's front.
+    let mut damaged = update.clone();
+    damaged[6 + 47] += 1;
+    let found = checksums(&file("commands-damaged", &damaged));
+    assert_eq!(found[0], "ls_checksum [20..22] = 15004, bad");
+    assert_eq!(found[1..], good[1..]);
+    let single = [&[2, 2], &update[6..54]].concat();
+    let found = checksums(&file("commands-single", &single));
+    assert_eq!(found, ["ls_checksum [16..18] = 15004, good"]);
+    let longer = [&single[..], &[1]].concat();
+    let found = checksums(&file("commands-longer", &longer));
+    assert_eq!(found, ["ls_checksum [16..18] = 15004, bad"]);
+    assert_eq!(
+        checksums("examples/header-and-byte.bin"),
+        ["ls_checksum [16..18] = 4660"]
+    );
+}
+
 /// An error is found before anything is built: here there is nothing to build with.
 #[test]
 fn errors_come_before_the_build() {

@@ -91,6 +91,16 @@ fn refusals_by_number() {
             Refusal::Age,
             11,
         ),
+        (
+            ospf_strip::checksum_is_good(&long).unwrap_err(),
+            Refusal::LsaLength,
+            13,
+        ),
+        (
+            ospf_strip::make_checksum(&mut [0; 19]).unwrap_err(),
+            Refusal::LsaLength,
+            13,
+        ),
     ];
     for (found, refusal, number) in refusals {
         assert_eq!((found, found.number()), (refusal, number));

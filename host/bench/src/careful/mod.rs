@@ -2,6 +2,7 @@
 //! no allocation and no unsafe code. An entry's bytes are taken off the lent
 //! strip by one test, a record's or link's off the data by one.
 
+pub mod checksum;
 mod v2;
 mod v3;
 mod writer;
