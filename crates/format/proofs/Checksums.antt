@@ -1,11 +1,11 @@
--- From the host's number to the requirements, for the LS checksum's check and making.
+-- From the host's number to the requirements, for the LS checksum's check and making; and a worked example.
 use Prim.Native.Nat.{ℕ, _+_, _*_}
 use native.Mathlib.Omega.{arith}
 use mathlib.Core.Path.{_≡_, refl, ap, _∙_}
 use mathlib.Core.Logic.{⊎-elim}
-use mathlib.Core.List.{List}
-use lib.ListN.{getD}
-use Rattle.format.specs.Checksum.{Check, Making, check, making, madeLsa}
+use mathlib.Core.List.{List, [], _∷_}
+use lib.ListN.{getD, set}
+use Rattle.format.specs.Checksum.{Check, Making, running, sums, withChecksum, isGood, check, octetOf, sumsWithout, making, madeLsa}
 use Rattle.format.specs.Checksum.Check.{good, bad, refused}
 use Rattle.format.specs.Checksum.Making.{made, refused as not-made}
 use Rattle.format.specs.Packed.{packedCheck, packedMaking}
@@ -80,3 +80,16 @@ make-host before after r e f = rw (e, f) (go (making before) (madeLsa (making be
           left = λ h. (t .leaves p, u .result);
           other-bits = u .others;
         }
+
+-- The first LSA of examples/update-v2.bin, as a router made it.
+abbrev pub published : List ℕ
+published =
+    0 ∷ 2 ∷ 2 ∷ 1 ∷ 192 ∷ 168 ∷ 170 ∷ 3 ∷ 192 ∷ 168 ∷ 170 ∷ 3 ∷ 128 ∷ 0 ∷ 0 ∷ 1 ∷
+    58 ∷ 156 ∷ 0 ∷ 48 ∷ 2 ∷ 0 ∷ 0 ∷ 2 ∷ 192 ∷ 168 ∷ 170 ∷ 0 ∷ 255 ∷ 255 ∷ 255 ∷ 0 ∷
+    3 ∷ 0 ∷ 0 ∷ 10 ∷ 192 ∷ 168 ∷ 170 ∷ 0 ∷ 255 ∷ 255 ∷ 255 ∷ 0 ∷ 3 ∷ 0 ∷ 0 ∷ 10 ∷
+    []
+
+-- It is good; its checksum, 0x3A9C, is made again; and it is bad with another last byte.
+pub worked-lsa : (check published ≡ good) × (making (withChecksum published 0 0) ≡ made 58 156) × (check (set published 47 11) ≡ bad)
+unfolding check isGood sums running making octetOf sumsWithout
+worked-lsa = (refl, refl, refl)

@@ -17,10 +17,10 @@ use Rattle.format.specs.Fletcher.{octetSum, Good, Octet, NoLsa, Lsa, Che
 use Rattle.format.proofs.Checksum.{same-residues, weighted, sums-are, both-ways, octets-set, weighted-set}
 
 -- A residue as an octet from 1 to 255 is less than its number by a multiple of 255.
-pub record OctetOf (m x : ℕ) : Type 0 where
-  pub octet : Octet x
-  pub times : ℕ
-  pub less : x + 255 * times ≡ m
+record OctetOf (m x : ℕ) : Type 0 where
+  octet : Octet x
+  times : ℕ
+  less : x + 255 * times ≡ m
 
 octet-of : (m : ℕ) → 0 < m → OctetOf m (octetOf m)
 unfolding octetOf
@@ -104,13 +104,13 @@ only-solution {t} {w} {k} {x} {y} {x'} {y'} s s' =
     (first-alone t w k x' y' _ _ (whole _ (s' .first-sum)) (whole _ (s' .second-sum))) in
     (p, same-second t x x' y y' (s .second-octet) (s' .second-octet) (s .first-sum) (s' .first-sum) p)
 
--- The sums of an LSA with k bytes after its field.
+-- The sums of an LSA with k bytes after its field: those without the field, and what the field adds.
 module _ (lsa : List ℕ) (k : ℕ) (e : length lsa ≡ k + 18) where
-  abbrev pub t : ℕ
-  t = octetSum (drop 2 (withChecksum lsa 0 0))
+  abbrev octets-without : ℕ
+  octets-without = octetSum (drop 2 (withChecksum lsa 0 0))
 
-  abbrev pub w : ℕ
-  w = weighted (drop 2 (withChecksum lsa 0 0))
+  abbrev weighted-without : ℕ
+  weighted-without = weighted (drop 2 (withChecksum lsa 0 0))
 
   set-sums : (x y : ℕ) → (octetSum (drop 2 (withChecksum lsa x y)) + getD lsa 16 0 + getD lsa 17 0 ≡ octetSum (drop 2 lsa) + x + y)
       × (weighted (drop 2 (withChecksum lsa x y)) + (k + 2) * getD lsa 16 0 + (k + 1) * getD lsa 17 0 ≡ weighted (drop 2 lsa) + (k + 2) * x + (k + 1) * y)
@@ -127,7 +127,7 @@ module _ (lsa : List ℕ) (k : ℕ) (e : length lsa ≡ k + 18) where
       let r = weighted-set (set l 14 x) 15 k y (omega arith) in
       rw d (omega (arith, o, p), omega (arith, q, r, ap (λ (z : ℕ). (k + 2) * z) u, ap (λ (z : ℕ). (k + 1) * z) v))
 
-  pub with-sums : (x y : ℕ) → sums (withChecksum lsa x y) ≡ residues (t + x + y) (w + (k + 2) * x + (k + 1) * y)
+  with-sums : (x y : ℕ) → sums (withChecksum lsa x y) ≡ residues (octets-without + x + y) (weighted-without + (k + 2) * x + (k + 1) * y)
   with-sums x y =
       let f = set-sums x y in
       let g = set-sums 0 0 in
@@ -253,7 +253,7 @@ with-own lsa other h s = ext-getD 0 other _ (s .as-long ∙ sym (w .as-long)) (�
 -- A solution makes an LSA good, and two octets that do are one.
 module _ (lsa : List ℕ) (k : ℕ) (e : length lsa ≡ k + 18) where
   abbrev Solves : (x y : ℕ) → Type 0
-  Solves x y = Solution (t lsa k e) (w lsa k e) k x y
+  Solves x y = Solution (octets-without lsa k e) (weighted-without lsa k e) k x y
 
   solution : (x y : ℕ) → Octet x → Octet y → Good (withChecksum lsa x y) → Solves x y
   solution x y hx hy g =
@@ -288,7 +288,7 @@ module _ (lsa : List ℕ) (k : ℕ) (e : length lsa ≡ k + 18) where
   solves-from u v =
       let a : length lsa - 17 ≡ k + 1 = omega arith in
       let b : length lsa - 16 ≡ k + 2 = omega arith in
-      rw (with-sums lsa k e u v, a, b) (solves (t lsa k e) (w lsa k e) k u v)
+      rw (with-sums lsa k e u v, a, b) (solves (octets-without lsa k e) (weighted-without lsa k e) k u v)
 
 -- The field of the definition, by the sums without it, and that by the sums of the LSA as it is.
 module _ (lsa : List ℕ) (h : Lsa lsa) where
