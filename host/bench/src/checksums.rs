@@ -8,7 +8,7 @@ use bench::careful::checksum::{CAREFUL, PLAIN};
 use checksum::{Checksum, PROVED};
 use inputs::Rng;
 
-use crate::{MOST, count, time};
+use crate::{MOST, count, figures, time};
 
 /// The ways, in the order in which they are printed.
 const WAYS: [Checksum; 3] = [PROVED, CAREFUL, PLAIN];
@@ -69,7 +69,7 @@ pub fn print(rounds: usize) {
     println!("instructions a record, by callgrind");
     print!("{:26}", "");
     for _ in 0..2 {
-        print!(" |{:>10}{:>10}{:>10}", "port", "careful", "plain");
+        print!(" |{:>9}{:>9}{:>10}", "port", "careful", "plain");
         print!("{:>6}{:>6}", "p/c", "p/p");
     }
     println!();
@@ -95,12 +95,6 @@ pub fn print(rounds: usize) {
             println!();
         }
     }
-}
-
-/// Three figures, and the port's ratios to the others.
-fn figures([port, careful, plain]: [f64; 3]) {
-    print!("{port:10.1}{careful:10.1}{plain:10.1}");
-    print!("{:6.2}{:6.2}", port / careful, port / plain);
 }
 
 /// The run that is counted: row, call, way and passes, as numbers.
