@@ -1,6 +1,7 @@
 /*
- * The LSAs of OSPFv2 and OSPFv3 packets as a strip of fields: the exports of libospf.a, which `rt staticlib ospf`
- * writes to target/staticlib; and, inline, a reader of strips. docs/STRIP.md has the format of strips and all ids.
+ * The LSAs of OSPFv2 and OSPFv3 packets, and the blocks that may follow a packet, as a strip of fields: the exports of
+ * libospf.a, which `rt staticlib ospf` writes to target/staticlib; and, inline, a reader of strips. docs/STRIP.md has
+ * the format of strips and all ids.
  *
  * What a caller must know of the exports:
  * - A slice is a pointer and a length. The pointer is not null, whatever the length. Data and strip do not overlap.
@@ -36,6 +37,20 @@ uint64_t ospf_lsu_lsas(uint8_t version, const uint8_t *data, size_t data_len, ui
 /* A single LSA, all of data. */
 uint64_t ospf_lsa(uint8_t version, const uint8_t *data, size_t data_len, uint64_t offset, uint8_t *strip,
                   size_t strip_len);
+
+/*
+ * The blocks that may follow a packet. Each takes one at the front of data and writes its fields to strip, as a walk
+ * does; what follows the block is not looked at. Where none stands there, the answer is 0: nothing is written, and no
+ * room is needed. Refused, in this order: OSPF_REFUSED_TOO_LONG; _OFFSET; _ROOM, where a block stands there.
+ */
+
+/* An LLS data block (RFC 5613), of either version. The 16 bits at 2 have its length in words of four bytes; none stands
+   there if that is 0 or beyond data. Its TLVs are one range. The strip has 45 bytes. */
+uint64_t ospf_lls(const uint8_t *data, size_t data_len, uint64_t offset, uint8_t *strip, size_t strip_len);
+
+/* The authentication trailer of OSPFv3 (RFC 7166). The 16 bits at 2 have its length in bytes; none stands there if that
+   is below 16 or beyond data. The digest is not checked. The strip has 75 bytes. */
+uint64_t ospf_auth_trailer(const uint8_t *data, size_t data_len, uint64_t offset, uint8_t *strip, size_t strip_len);
 
 /*
  * The comparisons and the proved step. They write nothing; first and second may overlap.
@@ -75,15 +90,19 @@ uint64_t ospf_lsa_checksum_make(uint8_t *lsa, size_t lsa_len);
 
 /*
  * An export's answer: a number of 64 bits. The low 32 have what was asked, the next 8 the number of a refusal, 0 if
- * there is none, and the rest is zero.
+ * there is none, and the upper 24 the length of the block that ospf_lls or ospf_auth_trailer took, else 0.
  */
 
 /* The number of a refusal, from any answer; 0 if there is none. */
 static inline uint8_t ospf_number(uint64_t answer) { return (uint8_t)(answer >> 32); }
 
-/* The length, from the answer of a walk or of ospf_strip_step. With OSPF_REFUSED_ROOM it is the length needed, with any
-   other refusal 0. */
+/* The length, from the answer of a walk, of a block or of ospf_strip_step. With OSPF_REFUSED_ROOM it is the length
+   needed, with any other refusal 0. */
 static inline uint32_t ospf_length(uint64_t answer) { return (uint32_t)answer; }
+
+/* How many bytes of data the block takes, from the answer of ospf_lls or ospf_auth_trailer; 0 where none stands there,
+   and where refused. */
+static inline uint32_t ospf_block(uint64_t answer) { return (uint32_t)(answer >> 40); }
 
 /* What a comparison found: OSPF_NEWNESS_.. or OSPF_PREFIX_.., where it was not refused. */
 static inline uint32_t ospf_compared(uint64_t answer) { return (uint32_t)answer; }
@@ -122,7 +141,8 @@ enum {
     OSPF_KIND_U32 = 5,
     OSPF_KIND_IPV4 = 6,
     OSPF_KIND_IPV6 = 7,
-    OSPF_KIND_BYTES = 8
+    OSPF_KIND_BYTES = 8,
+    OSPF_KIND_U64 = 10
 };
 
 /* How many bytes follow it: id, start and end of every kind but a close, then the value. */
@@ -134,7 +154,8 @@ enum {
     OSPF_BODY_U32 = 13,
     OSPF_BODY_IPV4 = 13,
     OSPF_BODY_IPV6 = 25,
-    OSPF_BODY_BYTES = 9
+    OSPF_BODY_BYTES = 9,
+    OSPF_BODY_U64 = 17
 };
 
 /* The fields' ids in version 2. */
@@ -232,7 +253,17 @@ enum {
     OSPF_ID_ATTACHED_ROUTER = 98,
     OSPF_ID_HEADER = 112,
     OSPF_ID_LSA = 113,
-    OSPF_ID_OUTER = 114
+    OSPF_ID_OUTER = 114,
+    OSPF_ID_LLS_CHECKSUM = 128,
+    OSPF_ID_LLS_DATA_LENGTH = 129,
+    OSPF_ID_LLS_TLVS = 130,
+    OSPF_ID_LLS = 136,
+    OSPF_ID_AUTH_TYPE = 144,
+    OSPF_ID_AUTH_DATA_LEN = 145,
+    OSPF_ID_SA_ID = 146,
+    OSPF_ID_CRYPTO_SEQUENCE_NUMBER = 147,
+    OSPF_ID_AUTH_DATA = 148,
+    OSPF_ID_AUTH_TRAILER = 152
 };
 
 static inline const char *ospf_name_v2(uint8_t id)
@@ -281,6 +312,16 @@ static inline const char *ospf_name_v2(uint8_t id)
     case OSPF_ID_HEADER: return "lsa_header";
     case OSPF_ID_LSA: return "lsa";
     case OSPF_ID_OUTER: return "lsas";
+    case OSPF_ID_LLS_CHECKSUM: return "checksum";
+    case OSPF_ID_LLS_DATA_LENGTH: return "lls_data_length";
+    case OSPF_ID_LLS_TLVS: return "tlvs";
+    case OSPF_ID_LLS: return "lls";
+    case OSPF_ID_AUTH_TYPE: return "auth_type";
+    case OSPF_ID_AUTH_DATA_LEN: return "auth_data_len";
+    case OSPF_ID_SA_ID: return "sa_id";
+    case OSPF_ID_CRYPTO_SEQUENCE_NUMBER: return "crypto_sequence_number";
+    case OSPF_ID_AUTH_DATA: return "auth_data";
+    case OSPF_ID_AUTH_TRAILER: return "auth_trailer";
     default: return NULL;
     }
 }
@@ -337,6 +378,16 @@ static inline const char *ospf_name_v3(uint8_t id)
     case OSPF_ID_HEADER: return "lsa_header";
     case OSPF_ID_LSA: return "lsa";
     case OSPF_ID_OUTER: return "lsas";
+    case OSPF_ID_LLS_CHECKSUM: return "checksum";
+    case OSPF_ID_LLS_DATA_LENGTH: return "lls_data_length";
+    case OSPF_ID_LLS_TLVS: return "tlvs";
+    case OSPF_ID_LLS: return "lls";
+    case OSPF_ID_AUTH_TYPE: return "auth_type";
+    case OSPF_ID_AUTH_DATA_LEN: return "auth_data_len";
+    case OSPF_ID_SA_ID: return "sa_id";
+    case OSPF_ID_CRYPTO_SEQUENCE_NUMBER: return "crypto_sequence_number";
+    case OSPF_ID_AUTH_DATA: return "auth_data";
+    case OSPF_ID_AUTH_TRAILER: return "auth_trailer";
     default: return NULL;
     }
 }
@@ -407,7 +458,7 @@ static inline OSPF_ALWAYS_INLINE ospf_entry ospf_step(const uint8_t *strip, size
     }
     kind = strip[place];
     OSPF_ARM(U16) OSPF_ARM(U8) OSPF_ARM(IPV4) OSPF_ARM(U32)
-    OSPF_ARM(CLOSE) OSPF_ARM(OPEN) OSPF_ARM(IPV6) OSPF_ARM(BYTES)
+    OSPF_ARM(CLOSE) OSPF_ARM(OPEN) OSPF_ARM(IPV6) OSPF_ARM(BYTES) OSPF_ARM(U64)
     entry.refused = OSPF_REFUSED_KIND;
     return entry;
 cut:
@@ -470,6 +521,8 @@ static inline uint32_t ospf_be32(const uint8_t *at)
     return (uint32_t)at[0] << 24 | (uint32_t)at[1] << 16 | (uint32_t)at[2] << 8 | at[3];
 }
 
+static inline uint64_t ospf_be64(const uint8_t *at) { return (uint64_t)ospf_be32(at) << 32 | ospf_be32(at + 4); }
+
 /* The field's id, start and end, of an entry of any kind but OSPF_KIND_CLOSE. */
 static inline uint8_t ospf_id(ospf_entry entry) { return entry.at[1]; }
 
@@ -483,6 +536,8 @@ static inline uint8_t ospf_u8(ospf_entry entry) { return entry.at[10]; }
 static inline uint16_t ospf_u16(ospf_entry entry) { return ospf_be16(entry.at + 10); }
 
 static inline uint32_t ospf_u32(ospf_entry entry) { return ospf_be32(entry.at + 10); }
+
+static inline uint64_t ospf_u64(ospf_entry entry) { return ospf_be64(entry.at + 10); }
 
 /* The 16 bytes of the address, of OSPF_KIND_IPV6; they lie in the strip. */
 static inline const uint8_t *ospf_ipv6(ospf_entry entry) { return entry.at + 10; }

@@ -1,7 +1,8 @@
 /*
- * Calls each export of libospf.a from C, through include/ospf.h: each walk on an example input, its whole strip, the
- * bytes past it, and the strip read by ospf_step beside the proved step; the comparisons; the LS checksum; and the
- * refusals. The last line is "c: N checks passed"; the exit status is 0 only where all passed.
+ * Calls each export of libospf.a from C, through include/ospf.h: each walk and each block on an example input, its
+ * whole strip, the bytes past it, and the strip read by ospf_step beside the proved step; blocks that are absent; the
+ * comparisons; the LS checksum; and the refusals. The last line is "c: N checks passed"; the exit status is 0 only
+ * where all passed.
  */
 #include <stdio.h>
 #include <string.h>
@@ -29,6 +30,7 @@ static void check(int ok, const char *what)
 #define U32(id, start, end, a, b, c, d) OSPF_KIND_U32, id, PLACES(start, end), a, b, c, d
 #define IPV4(id, start, end, a, b, c, d) OSPF_KIND_IPV4, id, PLACES(start, end), a, b, c, d
 #define BYTES(id, start, end) OSPF_KIND_BYTES, id, PLACES(start, end)
+#define U64(id, start, end, a, b, c, d, e, f, g, h) OSPF_KIND_U64, id, PLACES(start, end), a, b, c, d, e, f, g, h
 
 /* The fields of a version 2 header that is at a place: LS type, and the last byte of its length. */
 #define HEADER_V2(at, type, length)                                                    \
@@ -63,6 +65,7 @@ static uint64_t sum_of_values(const uint8_t *strip, size_t length)
         case OSPF_KIND_U16: sum += ospf_u16(entry); break;
         case OSPF_KIND_U32:
         case OSPF_KIND_IPV4: sum += ospf_u32(entry); break;
+        case OSPF_KIND_U64: sum += ospf_u64(entry); break;
         case 0: return UINT64_MAX;
         default: break;
         }
@@ -141,6 +144,79 @@ static void single(void)
     memset(strip, 0xA5, sizeof strip);
     uint64_t answer = ospf_lsa(2, data, sizeof data, 0, strip, sizeof strip);
     check_strip("single LSA", answer, strip, sizeof strip, expected, sizeof expected);
+}
+
+/* A block of this many bytes is taken, and its strip is the expected one. */
+static void check_block(const char *what, uint64_t answer, uint32_t block, const uint8_t *strip, size_t room,
+                        const uint8_t *expected, size_t length)
+{
+    check(ospf_block(answer) == block, what);
+    check_strip(what, answer - ((uint64_t)block << 40), strip, room, expected, length);
+}
+
+/* An LLS block of three words with a TLV of extended options, at 40 of its packet, and two bytes more. */
+static void lls(void)
+{
+    const uint8_t data[14] = {0xFF, 0xF6, 0, 3, 0, 1, 0, 4, 0, 0, 0, 1, 0xBE, 0xEF};
+    const uint8_t expected[45] = {OPEN(136, 40, 52), U16(128, 40, 42, 0xFF, 0xF6), U16(129, 42, 44, 0, 3),
+                                  BYTES(130, 44, 52), CLOSE};
+    uint8_t strip[60];
+    memset(strip, 0xA5, sizeof strip);
+    uint64_t answer = ospf_lls(data, sizeof data, 40, strip, sizeof strip);
+    check_block("LLS block", answer, 12, strip, sizeof strip, expected, sizeof expected);
+    check(ospf_lls(data, 12, 40, strip, 45) == answer, "LLS block, data and buffer full");
+    check(sum_of_values(strip, ospf_length(answer)) == 0xFFF6u + 3, "the LLS block's values");
+    check(strcmp(ospf_name(2, OSPF_ID_LLS), "lls") == 0 && strcmp(ospf_name(3, OSPF_ID_LLS), "lls") == 0, "its name");
+}
+
+/* A trailer with a sequence number above 32 bits and a digest of two bytes, and one byte more. */
+static void auth_trailer(void)
+{
+    const uint8_t data[19] = {0, 1, 0, 18, 0xFF, 0xFF, 0, 100, 0x80, 0, 0, 1, 0, 0, 0, 2, 0xDE, 0xAD, 0xBE};
+    const uint8_t expected[75] = {OPEN(152, 0, 18),
+                                  U16(144, 0, 2, 0, 1),
+                                  U16(145, 2, 4, 0, 18),
+                                  U16(146, 6, 8, 0, 100),
+                                  U64(147, 8, 16, 0x80, 0, 0, 1, 0, 0, 0, 2),
+                                  BYTES(148, 16, 18),
+                                  CLOSE};
+    uint8_t strip[90];
+    memset(strip, 0xA5, sizeof strip);
+    uint64_t answer = ospf_auth_trailer(data, sizeof data, 0, strip, sizeof strip);
+    check_block("trailer", answer, 18, strip, sizeof strip, expected, sizeof expected);
+    check(ospf_auth_trailer(data, 18, 0, strip, 75) == answer, "trailer, data and buffer full");
+    uint64_t values = 1 + 18 + 100 + 0x8000000100000002u;
+    check(sum_of_values(strip, ospf_length(answer)) == values, "the trailer's values");
+    check(strcmp(ospf_name(3, OSPF_ID_CRYPTO_SEQUENCE_NUMBER), "crypto_sequence_number") == 0, "the number's name");
+}
+
+/* Blocks that are absent, and refused ones: the lent buffer is as it was. */
+static void no_blocks(void)
+{
+    static uint8_t longest[65536];
+    const uint8_t words[8] = {0, 0, 0, 2}, trailer[16] = {0, 1, 0, 16};
+    uint8_t data[16] = {0}, strip[75], before[75];
+    memset(before, 0xA5, sizeof before);
+    memcpy(strip, before, sizeof before);
+    check(ospf_lls(words, 3, 0, strip, 75) == 0, "LLS block, 3 bytes");
+    check(ospf_lls(words, 7, 0, strip, 75) == 0, "LLS block, a byte short");
+    check(ospf_lls(words, 7, 0, strip, 0) == 0, "LLS block, absent without room");
+    check(ospf_lls(data, 16, 0, strip, 75) == 0, "LLS block, no word");
+    check(ospf_auth_trailer(trailer, 15, 0, strip, 75) == 0, "trailer, a byte short");
+    data[3] = 15;
+    check(ospf_auth_trailer(data, 16, 0, strip, 75) == 0, "trailer, a length of 15");
+    data[3] = 17;
+    check(ospf_auth_trailer(data, 16, 4294901760, strip, 0) == 0, "trailer, a length of 17");
+    longest[3] = 16;
+    uint64_t (*const blocks[2])(const uint8_t *, size_t, uint64_t, uint8_t *, size_t) = {ospf_lls, ospf_auth_trailer};
+    for (int i = 0; i < 2; i++) {
+        const uint32_t needed = i == 0 ? 45 : 75;
+        check(blocks[i](longest, 65536, 4294901761, strip, 0) == refused(OSPF_REFUSED_TOO_LONG, 0), "block, refusal 2");
+        check(blocks[i](longest, 64, 4294901761, strip, 0) == refused(OSPF_REFUSED_OFFSET, 0), "block, refusal 3");
+        check(blocks[i](longest, 0, 4294901761, strip, 0) == refused(OSPF_REFUSED_OFFSET, 0), "no block, refusal 3");
+        check(blocks[i](longest, 64, 0, strip, needed - 1) == refused(OSPF_REFUSED_ROOM, needed), "block, refusal 5");
+    }
+    check(memcmp(strip, before, sizeof before) == 0, "absent and refused blocks write nothing");
 }
 
 /* Two headers that differ in the sequence number, then in nothing; each refusal of the comparison. */
@@ -247,6 +323,9 @@ int main(void)
     headers();
     update();
     single();
+    lls();
+    auth_trailer();
+    no_blocks();
     newness();
     prefixes();
     checksums();

@@ -14,8 +14,6 @@ typedef struct reader_step {
     uint8_t kind, refused, id;
 } reader_step;
 
-static uint64_t be64(const uint8_t *at) { return (uint64_t)ospf_be32(at) << 32 | ospf_be32(at + 4); }
-
 static void read_value(ospf_entry entry, reader_step *step)
 {
     switch (entry.kind) {
@@ -24,9 +22,10 @@ static void read_value(ospf_entry entry, reader_step *step)
     case OSPF_KIND_U32:
     case OSPF_KIND_IPV4: step->low = ospf_u32(entry); break;
     case OSPF_KIND_IPV6:
-        step->high = be64(ospf_ipv6(entry));
-        step->low = be64(ospf_ipv6(entry) + 8);
+        step->high = ospf_be64(ospf_ipv6(entry));
+        step->low = ospf_be64(ospf_ipv6(entry) + 8);
         break;
+    case OSPF_KIND_U64: step->low = ospf_u64(entry); break;
     default: break;
     }
 }
@@ -84,7 +83,10 @@ uint64_t reader_read_all(const uint8_t *strip, size_t length)
             break;
         case OSPF_KIND_IPV6:
             sum += (uint64_t)ospf_id(entry) + ospf_start(entry) + ospf_end(entry);
-            sum += be64(ospf_ipv6(entry)) + be64(ospf_ipv6(entry) + 8);
+            sum += ospf_be64(ospf_ipv6(entry)) + ospf_be64(ospf_ipv6(entry) + 8);
+            break;
+        case OSPF_KIND_U64:
+            sum += (uint64_t)ospf_id(entry) + ospf_start(entry) + ospf_end(entry) + ospf_u64(entry);
             break;
         }
     }

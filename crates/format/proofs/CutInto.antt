@@ -21,7 +21,7 @@ use Rattle.format.proofs.Rules.{inside}
 use Rattle.format.proofs.Unique.{is-cut, only}
 
 -- The converse of `inside`.
-stands-where : (least : ℕ) (declared : Rule) (b : List ℕ) (p n : ℕ) → declared b p ≡ some n → least ≤ n → p + n ≤ length b → standing least declared b p ≡ some n
+pub stands-where : (least : ℕ) (declared : Rule) (b : List ℕ) (p n : ℕ) → declared b p ≡ some n → least ≤ n → p + n ≤ length b → standing least declared b p ≡ some n
 unfolding standing
 stands-where least declared b p n e h k = rw (le-leb (p + least) (length b) (omega arith), e, le-leb least n h, le-leb (p + n) (length b) k)
 

@@ -31,7 +31,7 @@ pub unpacked : (n x : ℕ) → x < 4294967296 → n < 256 → Unpacked n x (word
 unpacked n x h k = record { result = omega arith; number = omega arith; others = omega arith }
 
 -- What is written to a buffer's front leaves the bytes past it, and no call changes the buffer's length.
-past-front : (bs l : List ℕ) → length bs ≤ length l → drop (length bs) (sets l 0 bs) ≡ drop (length bs) l
+pub past-front : (bs l : List ℕ) → length bs ≤ length l → drop (length bs) (sets l 0 bs) ≡ drop (length bs) l
 past-front bs l h = rw (sets-front bs l h, drop-append-seam)
 
 strip-kept : (x : Outcome) (before : List ℕ) → length (stripOf x before) ≡ length before

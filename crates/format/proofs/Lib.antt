@@ -37,6 +37,8 @@ pub mod Host
 pub mod Comparisons
 pub mod Checksums
 pub mod Refusals
+pub mod Trailer
+pub mod Blocks
 pub mod Steps
 pub mod LaidWalks
 pub mod ListRanges

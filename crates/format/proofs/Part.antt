@@ -6,7 +6,7 @@ use native.Mathlib.Omega.{arith}
 use mathlib.Core.Path.{_≡_, refl, ap, _∙_}
 use mathlib.Core.Logic.{_↔_, _⊎_, inl, inr, ⊎-elim}
 use mathlib.Core.Bool.{Bool, true, false, cond}
-use mathlib.Core.List.{List, [], _∷_, _++_, List·Memᴰ}
+use mathlib.Core.List.{List, [], _∷_, _++_}
 use mathlib.Core.Option.{Option, none, some}
 use lib.ListN.{length, take, drop, length-append, length-drop}
 use lib.Seq.{sets, length-take-le, drop-append-add, drop-append-le, take-append-le}
@@ -149,19 +149,24 @@ pub reads-strip : (es : List Entry) (before : List ℕ) → length (encode es) �
 unfolding readAll
 reads-strip es before h = reads-from _ _ 0 es (read-strip es before h)
 
+-- What was written to the front of a buffer gives back the entries, where they are laid out in the data.
+pub written-gives-back : (d : List ℕ) (o : ℕ) (es : List Entry) (before : List ℕ) → length (encode es) ≤ length before → Laid anything o (o + length d) es
+    → GivesBack d o (take (length (encode es)) (sets before 0 (encode es))) es
+written-gives-back d o es before h l = record {
+  reads = reads-strip es before h;
+  laid = l;
+  parts = λ i s e m.
+      let q = laid-member (bytes i s e) (λ q. let y : _≡_ {A = ℕ} 0 1 = cc in omega arith) l m in
+      names d o s e (record { from = q .from; ordered = q .ordered; to = q .to });
+}
+
 -- A call with no refusal leaves a strip that reads as the walk's entries.
 gives-back : (d : List ℕ) (o n : ℕ) (es : List Entry) (r t : ℕ) (before : List ℕ) → (n ≡ 0 → Laid anything o (o + length d) es)
     → answerOf (unless n (accepted es r t)) (length before) .number ≡ 0
     → GivesBack d o (take (answerOf (unless n (accepted es r t)) (length before) .size) (stripOf (unless n (accepted es r t)) before)) es
 gives-back d o n es r t before w h =
     let k = taken n es r t before h in
-    let l = w (k .not-refused) in
-    rw (k .answered, k .written) (record { reads = reads-strip es before (k .fits); laid = l; parts = named l })
-  where
-    named : Laid anything o (o + length d) es → (i s e : ℕ) → List·Memᴰ (bytes i s e) es → Names d o s e
-    named l i s e m =
-        let q = laid-member (bytes i s e) (λ q. let y : _≡_ {A = ℕ} 0 1 = cc in omega arith) l m in
-        names d o s e (record { from = q .from; ordered = q .ordered; to = q .to })
+    rw (k .answered, k .written) (written-gives-back d o es before (k .fits) (w (k .not-refused)))
 
 -- Every accepted walk.
 pub headers-give-back : (v : ℕ) (d : List ℕ) (o : ℕ) (before : List ℕ) → answerOf (headersOf v d o) (length before) .number ≡ 0

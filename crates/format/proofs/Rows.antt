@@ -8,7 +8,7 @@ use mathlib.Core.Bool.{Bool, true}
 use mathlib.Core.List.{List, [], _∷_}
 use Rattle.format.specs.Strip.{Entry}
 use Rattle.format.specs.Layout.{Field, Layout, from, entryOf, entriesAt}
-use Rattle.format.specs.Layout.Field.{u8, bit, lowBits, u16, wide16, u24, metric24, u32, ip4, ip6}
+use Rattle.format.specs.Layout.Field.{u8, bit, lowBits, u16, wide16, u24, metric24, u32, u64, ip4, ip6}
 use Rattle.format.specs.Layout.Row.{row}
 use Rattle.format.specs.Laid.{isField, start, end, Laid, only}
 use Rattle.format.specs.Laid.Laid.{none, field}
@@ -25,6 +25,7 @@ size wide16 = 2
 size u24 = 3
 size metric24 = 3
 size u32 = 4
+size u64 = 8
 size ip4 = 4
 size (ip6 n) = n
 
@@ -51,6 +52,7 @@ module _ (b : List ℕ) (o p : ℕ) where
   row-is k i u24 = (refl, λ c r. refl, refl, refl)
   row-is k i metric24 = (refl, λ c r. refl, refl, refl)
   row-is k i u32 = (refl, λ c r. refl, refl, refl)
+  row-is k i u64 = (refl, λ c r. refl, refl, refl)
   row-is k i ip4 = (refl, λ c r. refl, refl, refl)
   row-is k i (ip6 n) = (refl, λ c r. refl, refl, refl)
 

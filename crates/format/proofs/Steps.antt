@@ -1,39 +1,67 @@
 -- The strip reader's step, case by case: what it answers, exactly when.
 use Prim.Native.Nat.{ℕ, zero, suc, _+_, _-_, _≤_, _<_}
+use native.Mathlib.Nat.{lt-of-not-le}
 use native.Mathlib.Omega.{arith}
 use mathlib.Core.Path.{_≡_, refl, _∙_}
 use mathlib.Core.Logic.{_⊎_, inl, inr, ⊎-elim}
 use mathlib.Core.Bool.{Bool, true, false}
-use mathlib.Core.List.{List, [], _∷_}
+use mathlib.Core.List.{List, [], _∷_, _++_}
 use mathlib.Core.Option.{none, some}
 use lib.ListN.{length, getD}
-use lib.Dec.{ltb, leb}
-use borrow.Author.Tests.{ltb-true, ltb-false, leb-true, leb-false, lt-ltb, le-ltb, le-leb, lt-leb, eq-eqb, ne-eqb}
-use Rattle.format.specs.Strip.{Step, lengthIn, bodyLength, entryAt, stepAt}
+use lib.Dec.{ltb, leb, eqb}
+use borrow.Author.Tests.{ltb-true, ltb-false, leb-true, leb-false, lt-ltb, le-ltb, le-leb, lt-leb, eq-eqb, ne-eqb, eqb-true, eqb-false}
+use Rattle.format.specs.Strip.{Step, lengthIn, bodyLength, entryAt, bodyAt, stepAt}
 use Rattle.format.specs.Strip.Step.{entry, end, refused}
-use Rattle.format.specs.Refusals.{lastKind, bodyBytes, Kind, entryEnd, Steps}
+use Rattle.format.specs.Refusals.{bodyBytes, Kind, entryEnd, Steps}
 
 -- Bodies of these lengths, for the kinds from j on.
 abbrev rows : ℕ → List ℕ → List (ℕ × ℕ)
 rows j [] = []
 rows j (l ∷ ls) = (j, l) ∷ rows (suc j) ls
 
--- A kind among them has its length, and another has none.
-found : (ls : List ℕ) (j n k : ℕ) → n < length ls → k ≡ j + n → lengthIn (rows j ls) k ≡ some (getD ls n 0)
-found [] j n k h e = absurd (omega arith)
-found (l ∷ ls) j zero k h e = rw (eq-eqb k j (omega arith))
-found (l ∷ ls) j (suc n) k h e = rw (ne-eqb k j (λ z. omega arith)) (found ls (suc j) n k (omega arith) (omega arith))
+-- A kind among them has its length, whatever follows, and another is sought in what follows.
+found : (ls more : List ℕ) (rest : List (ℕ × ℕ)) (j n k : ℕ) → n < length ls → k ≡ j + n → lengthIn (rows j ls ++ rest) k ≡ some (getD (ls ++ more) n 0)
+found [] more rest j n k h e = absurd (omega arith)
+found (l ∷ ls) more rest j zero k h e = rw (eq-eqb k j (omega arith))
+found (l ∷ ls) more rest j (suc n) k h e = rw (ne-eqb k j (λ z. omega arith)) (found ls more rest (suc j) n k (omega arith) (omega arith))
 
-lost : (ls : List ℕ) (j k : ℕ) → (j ≤ k → k < j + length ls → ⊥) → lengthIn (rows j ls) k ≡ none
-lost [] j k h = refl
-lost (l ∷ ls) j k h = rw (ne-eqb k j (λ z. h (omega arith) (omega arith))) (lost ls (suc j) k (λ a b. h (omega arith) (omega arith)))
+lost : (ls : List ℕ) (rest : List (ℕ × ℕ)) (j k : ℕ) → (j ≤ k → k < j + length ls → ⊥) → lengthIn (rows j ls ++ rest) k ≡ lengthIn rest k
+lost [] rest j k h = refl
+lost (l ∷ ls) rest j k h = rw (ne-eqb k j (λ z. h (omega arith) (omega arith))) (lost ls rest (suc j) k (λ a b. h (omega arith) (omega arith)))
 
--- `bodies` is `rows 1 bodyBytes`: the kinds are 1 to the last one and no other, and their bodies have these lengths.
+-- `bodies` is the rows of the kinds 1 to 8, then that of 10: these are the kinds and no other, and their bodies have these
+-- lengths.
+abbrev eight : List ℕ
+eight = 9 ∷ 0 ∷ 10 ∷ 11 ∷ 13 ∷ 13 ∷ 25 ∷ 9 ∷ []
+
+abbrev tenth : List (ℕ × ℕ)
+tenth = (10, 17) ∷ []
+
 pub kind-length : (k : ℕ) → Kind k → bodyLength k ≡ some (getD bodyBytes (k - 1) 0)
-kind-length k h = found bodyBytes 1 (k - 1) k (omega (arith, h .0, h .1)) (omega (arith, h .0))
+kind-length k h = go (leb k 8) refl
+  where
+    go : (t : Bool) → leb k 8 ≡ t → bodyLength k ≡ some (getD bodyBytes (k - 1) 0)
+    go true e = found eight (0 ∷ 17 ∷ []) tenth 1 (k - 1) k (omega (arith, h .0, leb-true k 8 e)) (omega (arith, h .0))
+    go false e =
+        let l = leb-false k 8 e in
+        let m : 10 ≤ k = lt-of-not-le (λ z. h .2 (omega (arith, z))) in
+        let q : k ≡ 10 = omega (arith, h .1) in
+        rw q refl
 
 pub no-kind : (k : ℕ) → (Kind k → ⊥) → bodyLength k ≡ none
-no-kind k h = lost bodyBytes 1 k (λ a b. h (a, omega arith))
+no-kind k h =
+    lost eight tenth 1 k (λ a b. h (a, omega arith, λ z. omega arith))
+    ∙ rw (ne-eqb k 10 (λ z. h (omega arith, omega arith, λ y. omega arith)))
+
+-- A number is a kind or it is none.
+decided : (k : ℕ) → Kind k ⊎ (Kind k → ⊥)
+decided k = go (leb 1 k) refl (leb k 10) refl (eqb k 9) refl
+  where
+    go : (a : Bool) → leb 1 k ≡ a → (b : Bool) → leb k 10 ≡ b → (c : Bool) → eqb k 9 ≡ c → Kind k ⊎ (Kind k → ⊥)
+    go false f b g c h = inr (λ z. omega (arith, leb-false 1 k f, z .0))
+    go true f false g c h = inr (λ z. omega (arith, leb-false k 10 g, z .1))
+    go true f true g true h = inr (λ z. z .2 (eqb-true k 9 h))
+    go true f true g false h = inl (leb-true 1 k f, leb-true k 10 g, eqb-false k 9 h)
 
 -- What each answer says of the strip and the place.
 abbrev Says : List ℕ → ℕ → Step → Type 0
@@ -54,40 +82,31 @@ module _ (s : List ℕ) (p : ℕ) where
 
   unknown : p < length s → (Kind (getD s p 0) → ⊥) → stepAt s p ≡ refused 7
   unfolding stepAt
-  unknown h k = rw (le-ltb (length s) p (omega arith), ne-eqb p (length s) (λ e. omega arith), no-kind (getD s p 0) k)
+  unknown h k = rw (le-ltb (length s) p (omega arith), ne-eqb p (length s) (λ e. omega arith), bodyAt, no-kind (getD s p 0) k)
 
   cut-off : p < length s → Kind (getD s p 0) → length s < entryEnd s p → stepAt s p ≡ refused 8
   unfolding stepAt
-  cut-off h k l = rw (le-ltb (length s) p (omega arith), ne-eqb p (length s) (λ e. omega arith), kind-length (getD s p 0) k, lt-leb (entryEnd s p) (length s) l)
+  cut-off h k l = rw (le-ltb (length s) p (omega arith), ne-eqb p (length s) (λ e. omega arith), bodyAt, kind-length (getD s p 0) k, lt-leb (entryEnd s p) (length s) l)
 
   whole : p < length s → Kind (getD s p 0) → entryEnd s p ≤ length s → stepAt s p ≡ entry (entryAt (getD s p 0) s (p + 1)) (entryEnd s p)
   unfolding stepAt
-  whole h k l = rw (le-ltb (length s) p (omega arith), ne-eqb p (length s) (λ e. omega arith), kind-length (getD s p 0) k, le-leb (entryEnd s p) (length s) l)
+  whole h k l = rw (le-ltb (length s) p (omega arith), ne-eqb p (length s) (λ e. omega arith), bodyAt, kind-length (getD s p 0) k, le-leb (entryEnd s p) (length s) l)
 
   -- One of these holds.
   says : Says s p (stepAt s p)
-  says = go (ltb (length s) p) refl (ltb p (length s)) refl (leb 1 (getD s p 0)) refl (leb (getD s p 0) lastKind) refl (leb (entryEnd s p) (length s)) refl
+  says = go (ltb (length s) p) refl (ltb p (length s)) refl (leb (entryEnd s p) (length s)) refl (decided (getD s p 0))
     where
-      go : (a : Bool) → ltb (length s) p ≡ a → (b : Bool) → ltb p (length s) ≡ b → (c : Bool) → leb 1 (getD s p 0) ≡ c → (d : Bool) → leb (getD s p 0) lastKind ≡ d
-          → (e : Bool) → leb (entryEnd s p) (length s) ≡ e → Says s p (stepAt s p)
-      go true h b i c j d k e l = let z = ltb-true (length s) p h in rw (beyond z) (inl (refl, z))
-      go false h false i c j d k e l = let z : p ≡ length s = omega (arith, ltb-false (length s) p h, ltb-false p (length s) i) in rw (ended z) z
-      go false h true i false j d k e l =
+      go : (a : Bool) → ltb (length s) p ≡ a → (b : Bool) → ltb p (length s) ≡ b → (e : Bool) → leb (entryEnd s p) (length s) ≡ e
+          → Kind (getD s p 0) ⊎ (Kind (getD s p 0) → ⊥) → Says s p (stepAt s p)
+      go true h b i e l k = let z = ltb-true (length s) p h in rw (beyond z) (inl (refl, z))
+      go false h false i e l k = let z : p ≡ length s = omega (arith, ltb-false (length s) p h, ltb-false p (length s) i) in rw (ended z) z
+      go false h true i e l (inr n) = let z = ltb-true p (length s) i in rw (unknown z n) (inr (inl (refl, z, n)))
+      go false h true i false l (inl n) =
           let z = ltb-true p (length s) i in
-          let n : Kind (getD s p 0) → ⊥ = λ y. let x = leb-false 1 (getD s p 0) j in let w = y .0 in omega arith in
-          rw (unknown z n) (inr (inl (refl, z, n)))
-      go false h true i true j false k e l =
-          let z = ltb-true p (length s) i in
-          let n : Kind (getD s p 0) → ⊥ = λ y. let x = leb-false (getD s p 0) lastKind k in let w = y .1 in omega arith in
-          rw (unknown z n) (inr (inl (refl, z, n)))
-      go false h true i true j true k false l =
-          let z = ltb-true p (length s) i in
-          let n : Kind (getD s p 0) = (leb-true 1 (getD s p 0) j, leb-true (getD s p 0) lastKind k) in
           let m = leb-false (entryEnd s p) (length s) l in
           rw (cut-off z n m) (inr (inr (refl, z, n, m)))
-      go false h true i true j true k true l =
+      go false h true i true l (inl n) =
           let z = ltb-true p (length s) i in
-          let n : Kind (getD s p 0) = (leb-true 1 (getD s p 0) j, leb-true (getD s p 0) lastKind k) in
           let m = leb-true (entryEnd s p) (length s) l in
           rw (whole z n m) (z, n, m, refl, refl)
 

@@ -1,5 +1,5 @@
 -- What the host's one number says: of a walk, with the lent buffer before and after the call; of newness, of the prefix
--- comparison, and of a step; of the LS checksum's check and making. The requirements as whoever calls an export sees them.
+-- comparison, and of a step; of the LS checksum's check and making; of a block after a packet. The requirements as whoever calls an export sees them.
 use Prim.Native.Nat.{ℕ, _+_, _*_, _/_, _%_, _≤_, _<_}
 use mathlib.Core.Path.{_≡_}
 use mathlib.Core.Logic.{_↔_, _⊎_}
@@ -8,7 +8,10 @@ use lib.ListN.{length, getD, take, drop, replicate}
 use Rattle.format.specs.Header.{headerAt}
 use Rattle.format.specs.Newer.{Newer}
 use Rattle.format.specs.Fletcher.{NoLsa, Lsa, Good, Made}
-use Rattle.format.specs.Refusals.{Numbers, NewnessRefusals, Kind, entryEnd}
+use Rattle.format.specs.Strip.{Entry}
+use Rattle.format.specs.Laid.{Laid, anything}
+use Rattle.format.specs.Part.{GivesBack}
+use Rattle.format.specs.Refusals.{Numbers, TooMuch, TooFar, NewnessRefusals, Kind, entryEnd}
 use Rattle.format.specs.Shown.{HeadersShow, UpdateShows, OneShows}
 
 -- The low 32 bits, and the 8 above them.
@@ -17,6 +20,10 @@ resultIn r = r % 4294967296
 
 abbrev pub numberIn : ℕ → ℕ
 numberIn r = r / 4294967296 % 256
+
+-- The 24 above these.
+abbrev pub blockIn : ℕ → ℕ
+blockIn r = r / 1099511627776
 
 -- The answer r to a call that needs `least` bytes of data and whose strip has the length `needed`. The number is that of the
 -- table, the length that of the strip (or what is needed, on 5), and the other bits are zero. Accepted, the buffer's first
@@ -89,3 +96,22 @@ pub record MakeHost (before after : List ℕ) (r : ℕ) : Type 0 where
   pub makes : numberIn r ≡ 0 → Made before after × (resultIn r ≡ getD after 16 0 * 256 + getD after 17 0)
   pub left : numberIn r ≡ 13 → (after ≡ before) × (resultIn r ≡ 0)
   pub other-bits : r / 1099511627776 ≡ 0
+
+-- The reading of a block, with the lent buffer before and after the call. A block of n bytes stands at the front of the data d where
+-- `Stands n`; its strip has `needed` bytes and shows the entries `shown n`. Each number is answered exactly when its condition holds
+-- and none before it does: 2, 3, then absent, then 5. Where a block is found, the buffer's first bytes read as its entries, which lie in
+-- the block and give back the bytes they name; in all other cases the buffer is as it was.
+pub record BlockHost (d : List ℕ) (o : ℕ) (Stands : ℕ → Type 0) (needed : ℕ) (shown : ℕ → List Entry) (before after : List ℕ) (r : ℕ) : Type 0 where
+  pub two : (numberIn r ≡ 2) ↔ TooMuch d
+  pub three : (numberIn r ≡ 3) ↔ ((TooMuch d → ⊥) × TooFar o)
+  pub absent : (r ≡ 0) ↔ ((TooMuch d → ⊥) × (TooFar o → ⊥) × ((n : ℕ) → Stands n → ⊥))
+  pub five : (numberIn r ≡ 5) ↔ ((TooMuch d → ⊥) × (TooFar o → ⊥) × ((n : ℕ) × Stands n) × (length before < needed))
+  pub found : (n : ℕ) → ((numberIn r ≡ 0) × (blockIn r ≡ n) × (0 < n)) ↔ ((TooMuch d → ⊥) × (TooFar o → ⊥) × Stands n × (needed ≤ length before))
+  pub no-other : (numberIn r ≡ 0) ⊎ (numberIn r ≡ 2) ⊎ (numberIn r ≡ 3) ⊎ (numberIn r ≡ 5)
+  pub length-of : ((0 < blockIn r) ⊎ (numberIn r ≡ 5)) → resultIn r ≡ needed
+  pub no-length : ((numberIn r ≡ 2) ⊎ (numberIn r ≡ 3)) → resultIn r ≡ 0
+  pub no-block : (numberIn r ≡ 0 → ⊥) → blockIn r ≡ 0
+  pub strip : 0 < blockIn r → GivesBack d o (take (resultIn r) after) (shown (blockIn r)) × Laid anything o (o + blockIn r) (shown (blockIn r))
+  pub past : 0 < blockIn r → drop (resultIn r) after ≡ drop (resultIn r) before
+  pub left : blockIn r ≡ 0 → after ≡ before
+  pub as-long : length after ≡ length before

@@ -1,7 +1,7 @@
 -- Records of fixed fields as tables, a row for each entry that a strip shows of the record.
 use Prim.Native.Nat.{ℕ, zero, suc, _+_}
 use mathlib.Core.List.{List, map}
-use Rattle.format.specs.Strip.{Entry, u8At, bitAt, lowBitsAt, u16At, wide16At, u24At, metric24At, u32At, ip4At}
+use Rattle.format.specs.Strip.{Entry, u8At, bitAt, lowBitsAt, u16At, wide16At, u24At, metric24At, u32At, u64At, ip4At}
 use Rattle.format.specs.Prefix.{ip6At}
 
 -- What stands at a row's place, and so how it is shown. A weight names the one bit of a byte that has it, or, of
@@ -15,6 +15,7 @@ pub data Field : Type 0 where
   u24 : Field
   metric24 : Field
   u32 : Field
+  u64 : Field
   ip4 : Field
   ip6 : (octets : ℕ) → Field
 
@@ -40,6 +41,7 @@ entryOf b o p (row k wide16 i) = wide16At i b o (from p k)
 entryOf b o p (row k u24 i) = u24At i b o (from p k)
 entryOf b o p (row k metric24 i) = metric24At i b o (from p k)
 entryOf b o p (row k u32 i) = u32At i b o (from p k)
+entryOf b o p (row k u64 i) = u64At i b o (from p k)
 entryOf b o p (row k ip4 i) = ip4At i b o (from p k)
 entryOf b o p (row k (ip6 n) i) = ip6At i b o (from p k) n
 

@@ -11,6 +11,7 @@ pub mod Body
 pub mod V2
 pub mod V3
 pub mod Walks
+pub mod Trailer
 pub mod Packed
 pub mod Part
 pub mod Print
@@ -24,4 +25,5 @@ pub mod Shown
 pub mod Refusals
 pub mod Newer
 pub mod Fletcher
+pub mod Blocks
 pub mod Host

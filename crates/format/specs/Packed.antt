@@ -1,4 +1,5 @@
--- What an export answers, as one number of 64 bits: the result in the low 32, the number of a refusal in the next 8.
+-- What an export answers, as one number of 64 bits: the result in the low 32, the number of a refusal in the next 8, and in the
+-- last 24 the length of a block.
 use Prim.Native.Nat.{ℕ, _+_, _-_, _*_}
 use Rattle.format.specs.Strip.{Step}
 use Rattle.format.specs.Strip.Step.{entry, end, refused as not-read}
@@ -10,6 +11,8 @@ use Rattle.format.specs.Checksum.{Check, Making}
 use Rattle.format.specs.Checksum.Check.{good, bad, refused as no-lsa}
 use Rattle.format.specs.Checksum.Making.{made, refused as not-made}
 use Rattle.format.specs.Walks.{Answer}
+use Rattle.format.specs.Trailer.{BlockAnswer}
+use Rattle.format.specs.Trailer.BlockAnswer.{absent, found, refused as no-block}
 
 abbrev pub word : (number result : ℕ) → ℕ
 word n x = n * 4294967296 + x
@@ -46,3 +49,9 @@ packedCheck (no-lsa n) = word n 0
 abbrev pub packedMaking : Making → ℕ
 packedMaking (made x y) = word 0 (x * 256 + y)
 packedMaking (not-made n) = word n 0
+
+-- A block: the strip's length, or the length needed, and the block's. Absent, it is 0.
+abbrev pub packedBlock : BlockAnswer → ℕ
+packedBlock absent = word 0 0
+packedBlock (found strip block) = block * 1099511627776 + word 0 strip
+packedBlock (no-block n needed) = word n needed

@@ -18,8 +18,9 @@ pub data Entry : Type 0 where
   ip4 : (id start end address : ℕ) → Entry
   ip6 : (id start end high low : ℕ) → Entry
   bytes : (id start end : ℕ) → Entry
+  u64 : (id start end value : ℕ) → Entry
 
--- The kinds, each the first byte of an entry.
+-- The kinds, each the first byte of an entry. 9 is none.
 abbrev pub openKind : ℕ
 openKind = 1
 
@@ -43,6 +44,9 @@ ip6Kind = 7
 
 abbrev pub bytesKind : ℕ
 bytesKind = 8
+
+abbrev pub u64Kind : ℕ
+u64Kind = 10
 
 abbrev pub head : ℕ → ℕ → ℕ → List ℕ
 head i s e = i ∷ (be32 s ++ be32 e)
@@ -77,6 +81,7 @@ content (u32 i s e v) = says u32Kind valued i s e (be32 v)
 content (ip4 i s e a) = says ip4Kind valued i s e (be32 a)
 content (ip6 i s e h l) = says ip6Kind valued i s e (be64 h ++ be64 l)
 content (bytes i s e) = says bytesKind ranged i s e []
+content (u64 i s e v) = says u64Kind valued i s e (be64 v)
 
 -- An entry's bytes: its kind, then a body whose length the kind fixes.
 unfoldable pub code : Entry → List ℕ
@@ -121,6 +126,9 @@ wide16At i b o p = u32 i (o + p) (o + p + 2) (be16At b p)
 abbrev pub u32At : ℕ → List ℕ → ℕ → ℕ → Entry
 u32At i b o p = u32 i (o + p) (o + p + 4) (be32At b p)
 
+abbrev pub u64At : ℕ → List ℕ → ℕ → ℕ → Entry
+u64At i b o p = u64 i (o + p) (o + p + 8) (be64At b p)
+
 abbrev pub ip4At : ℕ → List ℕ → ℕ → ℕ → Entry
 ip4At i b o p = ip4 i (o + p) (o + p + 4) (be32At b p)
 
@@ -145,6 +153,7 @@ bodies =
     (ip4Kind, 13) ∷
     (ip6Kind, 25) ∷
     (bytesKind, 9) ∷
+    (u64Kind, 17) ∷
     []
 
 abbrev pub lengthIn : List (ℕ × ℕ) → ℕ → Option ℕ
@@ -165,21 +174,26 @@ entryOfKind k i b e s q =
     (cond (eqb k u32Kind) (u32 i b e (be32At s (q + 9)))
     (cond (eqb k ip4Kind) (ip4 i b e (be32At s (q + 9)))
     (cond (eqb k ip6Kind) (ip6 i b e (be64At s (q + 9)) (be64At s (q + 17)))
-    (bytes i b e)))))))
+    (cond (eqb k bytesKind) (bytes i b e)
+    (u64 i b e (be64At s (q + 9))))))))))
 
 -- The entry of a kind whose body stands at q.
 abbrev pub entryAt : ℕ → List ℕ → ℕ → Entry
 entryAt k s q = entryOfKind k (getD s q 0) (be32At s (q + 1)) (be32At s (q + 5)) s q
 
--- The step of the strip reader. 6: the place is beyond the strip's length; 7: no kind; 8: the body is cut by the end.
+-- What stands where the kind's byte has been read, and its body begins at q. 7: no kind; 8: the body is cut by the end.
+abbrev pub bodyAt : ℕ → List ℕ → ℕ → Step
+bodyAt k s q = elim (bodyLength k) [
+  | none ↦ refused 7
+  | some n ↦ cond (leb (q + n) (length s)) (entry (entryAt k s q) (q + n)) (refused 8)
+]
+
+-- The step of the strip reader. 6: the place is beyond the strip's length; then 7 and 8.
 unfoldable pub stepAt : List ℕ → ℕ → Step
 stepAt s p =
     cond (ltb (length s) p) (refused 6)
     (cond (eqb p (length s)) end
-    (elim (bodyLength (getD s p 0)) [
-      | none ↦ refused 7
-      | some n ↦ cond (leb (p + 1 + n) (length s)) (entry (entryAt (getD s p 0) s (p + 1)) (p + 1 + n)) (refused 8)
-    ]))
+    (bodyAt (getD s p 0) s (p + 1)))
 
 -- The entries from a place to the strip's end, and nothing where a step is refused before that. The first argument
 -- bounds the number of steps.

@@ -25,17 +25,19 @@ use strip_push::push_u16_at;
 use strip_push::push_u24_at;
 use strip_push::push_u32;
 use strip_push::push_u32_at;
+use strip_push::push_u64;
+use strip_push::push_u64_at;
 use strip_push::push_wide16_at;
 use strip_step::Entry;
 use strip_step::Step;
 use strip_step::step_at;
 
 pub fn run() {
-    let mut strip = [0u8; 98];
+    let mut strip = [0u8; 116];
     kinds(&mut strip);
     word(b"kinds\n");
     print_strip(&strip);
-    let mut fields = [0u8; 177];
+    let mut fields = [0u8; 195];
     let body = b"\xfe\xdc\xba\x98\x76\x54\x32\x10\x01\x23\x45\x67\x89\xab\xcd\xef\x85";
     leaves(&mut fields, body);
     word(b"leaves\n");
@@ -45,7 +47,7 @@ pub fn run() {
 
 // One entry of each kind, with the largest numbers, and the first of them around the others.
 fn kinds(strip: &mut [u8])
-    requires { ⌜ 98 ≤ length (now strip) ⌝ }
+    requires { ⌜ 116 ≤ length (now strip) ⌝ }
 {
     let a = begin_container(strip, 0, 255, 4294967295, 4294967295);
     let b = push_u8(strip, a, 1, 0, 1, 0, 255);
@@ -55,17 +57,18 @@ fn kinds(strip: &mut [u8])
 }
 
 fn more_kinds(strip: &mut [u8], at: usize)
-    requires { ⌜ at + 51 ≤ length (now strip) ⌝ }
+    requires { ⌜ at + 69 ≤ length (now strip) ⌝ }
 {
     let a = push_ipv4(strip, at, 4, 0, 4, 7, 3232235777);
     let b = push_ipv6(strip, a, 5, 4, 16, 7, 2306139568115548160, 1);
     let c = push_bytes(strip, b, 6, 27, 65562);
-    end_container(strip, c);
+    let d = push_u64(strip, c, 7, 27, 8, 7, 18446744073709551615);
+    end_container(strip, d);
 }
 
 // Each leaf on a body that begins at the place 1,000.
 fn leaves(strip: &mut [u8], body: &[u8])
-    requires { ⌜ 177 ≤ length (now strip) ⌝ }
+    requires { ⌜ 195 ≤ length (now strip) ⌝ }
     requires { ⌜ length (now body) ≡ 17 ⌝ }
 {
     let a = push_u8_at(strip, 0, 10, body, 0, 1000);
@@ -76,14 +79,15 @@ fn leaves(strip: &mut [u8], body: &[u8])
 }
 
 fn numbers(strip: &mut [u8], at: usize, body: &[u8])
-    requires { ⌜ at + 132 ≤ length (now strip) ⌝ }
+    requires { ⌜ at + 150 ≤ length (now strip) ⌝ }
     requires { ⌜ length (now body) ≡ 17 ⌝ }
 {
     let a = push_u24_at(strip, at, 14, body, 14, 1000);
     let b = push_metric24_at(strip, a, 15, body, 1, 1000);
     let c = push_wide16_at(strip, b, 16, body, 2, 1000);
     let d = push_u32_at(strip, c, 17, body, 13, 1000);
-    addresses(strip, d, body);
+    let e = push_u64_at(strip, d, 22, body, 9, 1000);
+    addresses(strip, e, body);
 }
 
 fn addresses(strip: &mut [u8], at: usize, body: &[u8])
@@ -96,7 +100,7 @@ fn addresses(strip: &mut [u8], at: usize, body: &[u8])
     push_bytes_at(strip, c, 21, 5, 12, 1000);
 }
 
-// The end, and a place beyond it; kinds 0 and 9; each kind's body cut by one byte.
+// The end, and a place beyond it; kinds 0, 9 and 11; each kind's body cut by one byte.
 fn refusals() {
     word(b"steps\n");
     print_step(b"", 0);
@@ -106,6 +110,7 @@ fn refusals() {
     print_step(b"\x02", 2);
     print_step(b"\x00", 0);
     print_step(b"\x09", 0);
+    print_step(b"\x0b", 0);
     print_step(b"\xff", 0);
     print_step(b"\x01........", 0);
     print_step(b"\x03.........", 0);
@@ -114,6 +119,7 @@ fn refusals() {
     print_step(b"\x06............", 0);
     print_step(b"\x07........................", 0);
     print_step(b"\x08........", 0);
+    print_step(b"\x0a................", 0);
     print_step(b"\x08\x01\x00\x00\x00\x02\x00\x00\x00\x03", 0);
 }
 

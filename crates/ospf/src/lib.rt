@@ -1,5 +1,6 @@
 // The library for the host, in C's calling convention: numbers as themselves, a slice as a pointer and a length. The answer is
-// one number: the result in the low 32 bits (of a walk the strip's length), the refusal's number in the next 8, the rest zero.
+// one number: the result in the low 32 bits (of a walk the strip's length), the refusal's number in the next 8, and in the rest
+// the length of a block after a packet, of all others zero.
 ghost use mathlib.Core.Path.{_≡_};
 ghost use Prim.Native.Nat.{_<_};
 ghost use lib.ListN.{length};
@@ -8,7 +9,9 @@ ghost use Rattle.format.specs.Header.{newnessAt};
 ghost use Rattle.format.specs.Prefix.{address, comparison};
 ghost use Rattle.format.specs.Strip.{stepAt};
 ghost use Rattle.format.specs.Checksum.{check, making, madeLsa};
-ghost use Rattle.format.specs.Packed.{word, packed, packedNewness, packedComparison, packedStep, packedCheck, packedMaking};
+ghost use Rattle.format.specs.Trailer.{llsOf, authTrailerOf, blockAnswer, blockStrip};
+ghost use Rattle.format.specs.Packed.{word, packed, packedNewness, packedComparison, packedStep, packedCheck, packedMaking, packedBlock};
+ghost use Rattle.trailer.specs.Answers.{meaning, Small};
 ghost use Rattle.ospf.specs.Answers.{newnessMeaning, comparisonMeaning};
 use checksum::Check;
 use checksum::Making;
@@ -22,6 +25,9 @@ use tlv::Comparison;
 use tlv::Prefix;
 use tlv::compare_prefixes;
 use tlv::prefix_to_ipv6;
+use trailer::Block;
+use trailer::push_auth_trailer;
+use trailer::push_lls;
 
 #[no_mangle]
 pub extern "C" fn ospf_lsa_headers(version: u8, data: &[u8], offset: u64, strip: &mut [u8]) -> u64
@@ -118,6 +124,35 @@ pub extern "C" fn ospf_lsa_checksum_make(lsa: &mut [u8]) -> u64
     match make_checksum(lsa) {
         Making::Made(field) => pack(0, field as usize),
         Making::Refused(n) => pack(n, 0),
+    }
+}
+
+// The LLS data block at the front of the data, if one stands there.
+#[no_mangle]
+pub extern "C" fn ospf_lls(data: &[u8], offset: u64, strip: &mut [u8]) -> u64
+    ensures { λ r. ⌜ r ≡ packedBlock (blockAnswer (llsOf (now («data» .entry)) offset) (length (now (strip .entry)))) ⌝ }
+    ensures { λ r. ⌜ now (strip .exit) ≡ blockStrip (llsOf (now («data» .entry)) offset) (now (strip .entry)) ⌝ }
+{
+    block_word(push_lls(data, offset, strip))
+}
+
+// The authentication trailer of OSPFv3 at the front of the data, if one stands there.
+#[no_mangle]
+pub extern "C" fn ospf_auth_trailer(data: &[u8], offset: u64, strip: &mut [u8]) -> u64
+    ensures { λ r. ⌜ r ≡ packedBlock (blockAnswer (authTrailerOf (now («data» .entry)) offset) (length (now (strip .entry)))) ⌝ }
+    ensures { λ r. ⌜ now (strip .exit) ≡ blockStrip (authTrailerOf (now («data» .entry)) offset) (now (strip .entry)) ⌝ }
+{
+    block_word(push_auth_trailer(data, offset, strip))
+}
+
+fn block_word(answer: Block) -> u64
+    requires { ⌜ Small answer ⌝ }
+    ensures { λ r. ⌜ r ≡ packedBlock (meaning answer) ⌝ }
+{
+    match answer {
+        Block::Absent => pack(0, 0),
+        Block::Found { strip, block } => block as u64 * 1099511627776 + pack(0, strip),
+        Block::Refused(number, needed) => pack(number, needed),
     }
 }
 

@@ -16,6 +16,7 @@ use print_digits::put_spaced;
 use print_digits::put_word;
 use strip_put::put_u8;
 use strip_step::Entry;
+use strip_step::Field;
 use walk_answer::Answer;
 
 // No line is longer.
@@ -78,90 +79,65 @@ fn put_line(out: &mut [u8], entry: Entry) -> usize
     ensures { λ r. ⌜ Wrote (now (out .entry)) 0 (line (entryMeaning entry)) (now (out .exit)) r ⌝ }
 {
     match entry {
-        Entry::Open { id, start, end } => put_range(out, b"open", id, start, end),
+        Entry::Open(f) => put_range(out, b"open", f),
         Entry::Close => put_word(out, 0, b"close\n"),
-        Entry::U8 {
-            id,
-            start,
-            end,
-            value,
-        } => put_number(out, b"u8", id, start, end, value as u32),
-        Entry::U16 {
-            id,
-            start,
-            end,
-            value,
-        } => put_number(out, b"u16", id, start, end, value as u32),
-        Entry::U32 {
-            id,
-            start,
-            end,
-            value,
-        } => put_number(out, b"u32", id, start, end, value),
-        Entry::Ipv4 {
-            id,
-            start,
-            end,
-            address,
-        } => put_ipv4(out, id, start, end, address),
-        Entry::Ipv6 {
-            id,
-            start,
-            end,
-            high,
-            low,
-        } => put_ipv6(out, id, start, end, high, low),
-        Entry::Bytes { id, start, end } => put_range(out, b"bytes", id, start, end),
+        Entry::U8(f, value) => put_number(out, b"u8", f, value as u64),
+        Entry::U16(f, value) => put_number(out, b"u16", f, value as u64),
+        Entry::U32(f, value) => put_number(out, b"u32", f, value as u64),
+        Entry::Ipv4(f, address) => put_ipv4(out, f, address),
+        Entry::Ipv6(f, high, low) => put_ipv6(out, f, high, low),
+        Entry::Bytes(f) => put_range(out, b"bytes", f),
+        Entry::U64(f, value) => put_number(out, b"u64", f, value),
     }
 }
 
 // Kind word, id, start and end.
-fn put_field(out: &mut [u8], word: &[u8], id: u8, start: u32, end: u32) -> usize
+fn put_field(out: &mut [u8], word: &[u8], f: Field) -> usize
     requires { ⌜ lineRoom ≤ length (now out) ⌝ }
     requires { ⌜ length (now word) ≤ 5 ⌝ }
-    ensures { λ r. ⌜ Wrote (now (out .entry)) 0 (field (now (word .entry)) id start end) (now (out .exit)) r ⌝ }
+    ensures { λ r. ⌜ Wrote (now (out .entry)) 0 (field (now (word .entry)) (f .id) (f .start) (f .end)) (now (out .exit)) r ⌝ }
     ensures { λ r. ⌜ r ≤ 68 ⌝ }
 {
     let a = put_word(out, 0, word);
-    put_place(out, a, id, start, end)
+    put_place(out, a, f.id, f.start, f.end)
 }
 
 // An entry without a value.
-fn put_range(out: &mut [u8], word: &[u8], id: u8, start: u32, end: u32) -> usize
+fn put_range(out: &mut [u8], word: &[u8], f: Field) -> usize
     requires { ⌜ lineRoom ≤ length (now out) ⌝ }
     requires { ⌜ length (now word) ≤ 5 ⌝ }
-    ensures { λ r. ⌜ Wrote (now (out .entry)) 0 (field (now (word .entry)) id start end ++ newline) (now (out .exit)) r ⌝ }
+    ensures { λ r. ⌜ Wrote (now (out .entry)) 0 (field (now (word .entry)) (f .id) (f .start) (f .end) ++ newline) (now (out .exit)) r ⌝ }
 {
-    let a = put_field(out, word, id, start, end);
+    let a = put_field(out, word, f);
     put_u8(out, a, NEWLINE)
 }
 
 // An entry whose value is a number.
-fn put_number(out: &mut [u8], word: &[u8], id: u8, start: u32, end: u32, value: u32) -> usize
+fn put_number(out: &mut [u8], word: &[u8], f: Field, value: u64) -> usize
     requires { ⌜ lineRoom ≤ length (now out) ⌝ }
     requires { ⌜ length (now word) ≤ 5 ⌝ }
-    ensures { λ r. ⌜ Wrote (now (out .entry)) 0 ((field (now (word .entry)) id start end ++ spaced value) ++ newline) (now (out .exit)) r ⌝ }
+    ensures { λ r. ⌜ Wrote (now (out .entry)) 0 ((field (now (word .entry)) (f .id) (f .start) (f .end) ++ spaced value) ++ newline) (now (out .exit)) r ⌝ }
 {
-    let a = put_field(out, word, id, start, end);
-    let b = put_spaced(out, a, value as u64);
+    let a = put_field(out, word, f);
+    let b = put_spaced(out, a, value);
     put_u8(out, b, NEWLINE)
 }
 
-fn put_ipv4(out: &mut [u8], id: u8, start: u32, end: u32, address: u32) -> usize
+fn put_ipv4(out: &mut [u8], f: Field, address: u32) -> usize
     requires { ⌜ lineRoom ≤ length (now out) ⌝ }
-    ensures { λ r. ⌜ Wrote (now (out .entry)) 0 ((field ip4Word id start end ++ (32 ∷ dotted address)) ++ newline) (now (out .exit)) r ⌝ }
+    ensures { λ r. ⌜ Wrote (now (out .entry)) 0 ((field ip4Word (f .id) (f .start) (f .end) ++ (32 ∷ dotted address)) ++ newline) (now (out .exit)) r ⌝ }
 {
-    let a = put_field(out, b"ip4", id, start, end);
+    let a = put_field(out, b"ip4", f);
     let b = put_u8(out, a, SPACE);
     let c = put_dotted(out, b, address);
     put_u8(out, c, NEWLINE)
 }
 
-fn put_ipv6(out: &mut [u8], id: u8, start: u32, end: u32, high: u64, low: u64) -> usize
+fn put_ipv6(out: &mut [u8], f: Field, high: u64, low: u64) -> usize
     requires { ⌜ lineRoom ≤ length (now out) ⌝ }
-    ensures { λ r. ⌜ Wrote (now (out .entry)) 0 ((field ip6Word id start end ++ (32 ∷ (hex 16 high ++ hex 16 low))) ++ newline) (now (out .exit)) r ⌝ }
+    ensures { λ r. ⌜ Wrote (now (out .entry)) 0 ((field ip6Word (f .id) (f .start) (f .end) ++ (32 ∷ (hex 16 high ++ hex 16 low))) ++ newline) (now (out .exit)) r ⌝ }
 {
-    let a = put_field(out, b"ip6", id, start, end);
+    let a = put_field(out, b"ip6", f);
     let b = put_u8(out, a, SPACE);
     let c = put_hex(out, b, high, 16);
     let d = put_hex(out, c, low, 16);

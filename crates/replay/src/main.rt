@@ -1,5 +1,5 @@
 // Replays files of stored calls (samples/README.md), which its arguments name: for each file how many calls it has, by walk
-// and by the number of the stored answer, and how many of them do not agree with the walks of crate `walk`.
+// or block and by the number of the stored answer, and how many of them do not agree with crates `walk` and `trailer`.
 mod buffers;
 
 use buffers::FILE;
@@ -48,7 +48,7 @@ fn replay_file(fd: i32) {
     print_differences(&file[..n]);
 }
 
-// The number of calls, a line for each walk with the calls of number 0 to 5, and whether the file ends with a whole call.
+// The number of calls, a line for each walk and block with the calls of number 0 to 5, and whether the file ends with a whole call.
 fn print_calls(file: &[u8]) {
     let whole = whole_calls(file, ROOM);
     word(b"calls");
@@ -60,6 +60,10 @@ fn print_calls(file: &[u8]) {
     print_numbers(file, 1);
     word(b"lsas");
     print_numbers(file, 2);
+    word(b"lls");
+    print_numbers(file, 3);
+    word(b"trailers");
+    print_numbers(file, 4);
     if whole.end == file.len() {
         word(b"whole\n");
     } else {

@@ -6,12 +6,12 @@ use mathlib.Core.Bool.{Bool, true, false}
 use mathlib.Core.List.{List}
 use lib.ListN.{length, getD, take, drop}
 use Rattle.format.specs.Bytes.{be32At, be64At, sameBytes}
-use Rattle.format.specs.Walks.{namedOf, answerOf, stripOf}
+use Rattle.format.specs.Walks.{answerOf, stripOf}
 use Rattle.walk_answer.specs.Answers.{answered, answerMeaning}
 use Rattle.walk_answer.specs.declared.Answer.{Answer}
 use Rattle.replay_call.specs.Stored.{walkAt, roomAt, sizeAt}
 use Rattle.replay_expected.specs.Expected.{lent, sameAnswer, storedAnswer, storedBuffer}
-use Rattle.replay_agreement.specs.Agree.{agreesAt, outcomeAt}
+use Rattle.replay_agreement.specs.Agree.{agreesAt, callOf, outcomeAt}
 use Rattle.replay_expected.proofs.Bytes.{lent-length}
 
 -- The call at p was made, with n bytes of data: what the walk answered, and the buffer before and after.
@@ -20,8 +20,8 @@ pub record Ran (b : List ℕ) (p n count offset : ℕ) (before after : List ℕ)
   pub counted : count ≡ be32At b (p + 2)
   pub placed : offset ≡ be64At b (p + 6)
   pub filled : before ≡ lent (roomAt b p)
-  pub said : a ≡ answered (answerOf (namedOf (getD b p 0) (walkAt b p) (take (p + 22 + n - (p + 22)) (drop (p + 22) b)) count offset) (length before))
-  pub left : after ≡ stripOf (namedOf (getD b p 0) (walkAt b p) (take (p + 22 + n - (p + 22)) (drop (p + 22) b)) count offset) before
+  pub said : a ≡ answered (answerOf (callOf (getD b p 0) (walkAt b p) (take (p + 22 + n - (p + 22)) (drop (p + 22) b)) count offset) (length before))
+  pub left : after ≡ stripOf (callOf (getD b p 0) (walkAt b p) (take (p + 22 + n - (p + 22)) (drop (p + 22) b)) count offset) before
 
 module _ (b : List ℕ) (p : ℕ) where
   -- the answer and the buffer are those of the definitions

@@ -1,17 +1,31 @@
--- When a stored call agrees with the definitions of the walks: in its answer, and in every byte of the lent buffer. And what
--- replaying it leaves in the buffer.
+-- When a stored call agrees with the definitions of the walks and of the blocks: in its answer, and in every byte of the lent
+-- buffer. And what replaying it leaves in the buffer.
 use Prim.Native.Nat.{ℕ, _+_}
 use mathlib.Core.Bool.{Bool, false, cond}
-use mathlib.Core.List.{List, _++_}
+use mathlib.Core.List.{List, [], _++_}
 use lib.ListN.{getD, drop}
+use lib.Dec.{eqb}
 use Rattle.format.specs.Bytes.{be32At, be64At, part, sameBytes}
 use Rattle.format.specs.Walks.{Outcome, namedOf, answerOf, stripOf}
+use Rattle.format.specs.Walks.Outcome.{refused, accepted}
+use Rattle.format.specs.Trailer.{Block, llsOf, authTrailerOf}
+use Rattle.format.specs.Trailer.Block.{refused as no-block, absent, found}
 use Rattle.replay_call.specs.Stored.{walkAt, roomAt, sizeAt, answerAt}
 use Rattle.replay_expected.specs.Expected.{lent, sameAnswer, storedAnswer, storedBuffer}
 
+-- A block is stored as a walk's outcome: its length in the place of the records; absent, it has no entries.
+abbrev pub asWalk : Block → Outcome
+asWalk (no-block n) = refused n
+asWalk absent = accepted [] 0 0
+asWalk (found es n) = accepted es n 0
+
+-- The walk or the block that a number names.
+unfoldable pub callOf : (version number : ℕ) → List ℕ → (count offset : ℕ) → Outcome
+callOf v n d count o = cond (eqb n 3) (asWalk (llsOf d o)) (cond (eqb n 4) (asWalk (authTrailerOf d o)) (namedOf v n d count o))
+
 -- What the call at p comes to by the definitions.
 unfoldable pub outcomeAt : List ℕ → ℕ → Outcome
-outcomeAt b p = namedOf (getD b p 0) (walkAt b p) (part b (p + 22) (sizeAt b p)) (be32At b (p + 2)) (be64At b (p + 6))
+outcomeAt b p = callOf (getD b p 0) (walkAt b p) (part b (p + 22) (sizeAt b p)) (be32At b (p + 2)) (be64At b (p + 6))
 
 unfoldable pub agreesAt : List ℕ → ℕ → Bool
 agreesAt b p =

@@ -1,7 +1,7 @@
 -- When a call stands at a place of a file, and what that says of its parts.
 use Prim.Native.Nat.{ℕ, _+_, _≤_, _<_}
 use native.Mathlib.Omega.{arith}
-use mathlib.Core.Path.{_≡_, refl, ap}
+use mathlib.Core.Path.{_≡_, refl}
 use mathlib.Core.Bool.{Bool, true, false, cond}
 use mathlib.Core.List.{List}
 use mathlib.Core.Option.{Option, none, some}
@@ -9,16 +9,8 @@ use lib.ListN.{length, getD}
 use lib.Dec.{leb}
 use borrow.Author.Tests.{le-leb, lt-leb, leb-true}
 use Rattle.format.specs.Cut.{standing, fitting}
-use Rattle.format.specs.Walks.{Walk, walkNamed}
 use Rattle.format.proofs.Rules.{inside}
-use Rattle.replay_call.specs.Stored.{isWalk, walkAt, roomAt, answerAt, callSize, isCall, callRule}
-
--- Whether a number is a walk's, by what it names.
-pub is-walk : (n : ℕ) {w : Walk} → walkNamed n ≡ some w → isWalk n ≡ true
-is-walk n e = ap (λ (o : Option Walk). elim o [ none ↦ false | some w ↦ true ]) e
-
-pub no-walk : (n : ℕ) → walkNamed n ≡ none → isWalk n ≡ false
-no-walk n e = ap (λ (o : Option Walk). elim o [ none ↦ false | some w ↦ true ]) e
+use Rattle.replay_call.specs.Stored.{walkAt, roomAt, answerAt, callSize, isCall, callRule}
 
 -- A call of n bytes stands at p.
 pub record Stands (most : ℕ) (b : List ℕ) (p n : ℕ) : Type 0 where
@@ -51,7 +43,7 @@ module _ (most : ℕ) (b : List ℕ) (p : ℕ) where
 
   roomy : isCall most b p ≡ true → roomAt b p ≤ most
   unfolding isCall
-  roomy e = go (isWalk (walkAt b p)) (leb (getD b (answerAt b p) 0) 5) e
+  roomy e = go (leb (walkAt b p) 4) (leb (getD b (answerAt b p) 0) 5) e
     where
       go : (s t : Bool) → cond s (cond t (leb (roomAt b p) most) false) false ≡ true → roomAt b p ≤ most
       go true true q = leb-true (roomAt b p) most q

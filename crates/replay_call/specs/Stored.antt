@@ -1,15 +1,14 @@
 -- A stored call, as samples/README.md has it: 22 bytes that say the call, its data, 13 bytes of answer, and the strip.
 use Prim.Native.Nat.{ℕ, _+_}
-use mathlib.Core.Bool.{Bool, true, false, cond}
+use mathlib.Core.Bool.{Bool, false, cond}
 use mathlib.Core.List.{List}
 use mathlib.Core.Option.{none, some}
 use lib.ListN.{getD}
 use lib.Dec.{leb, eqb}
 use Rattle.format.specs.Bytes.{be32At}
 use Rattle.format.specs.Cut.{Rule, standing}
-use Rattle.format.specs.Walks.{walkNamed}
 
--- Of the call at p: the walk, the lent buffer's length, the length of the data, and where the answer stands.
+-- Of the call at p: the walk or block, the lent buffer's length, the length of the data, and where the answer stands.
 abbrev pub walkAt : List ℕ → ℕ → ℕ
 walkAt b p = getD b (p + 1) 0
 
@@ -29,12 +28,10 @@ keptAt b q = cond (eqb (getD b q 0) 0) (be32At b (q + 1)) 0
 abbrev pub callSize : List ℕ → ℕ → ℕ
 callSize b p = 35 + sizeAt b p + keptAt b (answerAt b p)
 
-abbrev pub isWalk : ℕ → Bool
-isWalk n = elim (walkNamed n) [ none ↦ false | some w ↦ true ]
-
--- A call names a walk, a walk answers 0 or a refusal from 1 to 5, and a replay lends no more room than it has.
+-- The walks are 0 to 2; 3 is the reading of an LLS block, 4 that of an authentication trailer. Each answers 0 or a refusal from 1
+-- to 5, and a replay lends no more room than it has.
 unfoldable pub isCall : ℕ → List ℕ → ℕ → Bool
-isCall most b p = cond (isWalk (walkAt b p)) (cond (leb (getD b (answerAt b p) 0) 5) (leb (roomAt b p) most) false) false
+isCall most b p = cond (leb (walkAt b p) 4) (cond (leb (getD b (answerAt b p) 0) 5) (leb (roomAt b p) most) false) false
 
 -- The call is of this walk, and its stored answer has this number.
 unfoldable pub isOf : List ℕ → (walk number : ℕ) → ℕ → Bool

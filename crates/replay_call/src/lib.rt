@@ -1,5 +1,5 @@
 // A stored call (samples/README.md has the format): whether one stands whole at a place of a file, how long it is, and of
-// which walk and number it is.
+// which walk or block and number it is.
 ghost use mathlib.Core.Path.{_≡_};
 ghost use Prim.Native.Nat.{_+_, _≤_};
 ghost use lib.ListN.{length};
@@ -7,15 +7,15 @@ ghost use Rattle.replay_call.specs.Stored.{callRule, callSize, isCall, i
 ghost use Rattle.util.specs.Answers.{lengthOf};
 use util::Length;
 use util::read_be_u32;
-use walk_answer::NamedWalk;
-use walk_answer::walk_named;
 
 // The bytes before the data, and those of the answer after it.
 pub const CALL: usize = 22;
 
 pub const ANSWER: usize = 13;
 
-// The largest number of a walk's refusal.
+// The largest number that names a walk or a block, and the largest of a refusal.
+const WALKS: u8 = 4;
+
 const NUMBERS: u8 = 5;
 
 pub fn call_fits(file: &[u8], pos: usize, most: usize) -> Length
@@ -58,9 +58,9 @@ fn is_call(file: &[u8], pos: usize, size: usize, most: usize) -> bool
     requires { ⌜ size ≡ sizeAt (now file) pos ⌝ }
     ensures { λ r. ⌜ r ≡ isCall most (now (file .entry)) pos ⌝ }
 {
-    let NamedWalk::Walk(_) = walk_named(file[pos + 1]) else {
+    if WALKS < file[pos + 1] {
         return false;
-    };
+    }
     if NUMBERS < file[pos + CALL + size] {
         return false;
     }

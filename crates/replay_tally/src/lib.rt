@@ -1,4 +1,4 @@
-// All calls of a file: how many there are, of each walk and number, and which do not agree with the walks.
+// All calls of a file: how many there are, of each walk or block and number, and which do not agree with the definitions.
 ghost use mathlib.Core.Path.{_≡_};
 ghost use lib.ListN.{length};
 ghost use Rattle.format.specs.Cut.{after};
@@ -34,7 +34,7 @@ pub fn whole_calls(file: &[u8], most: usize) -> Whole
     }
 }
 
-// How many calls are of this walk and have this number as their stored answer's.
+// How many calls are of this walk or block and have this number as their stored answer's.
 pub fn count_calls(file: &[u8], most: usize, walk: u8, number: u8) -> usize
     ensures { λ r. ⌜ r ≡ countOf (isOf (now (file .entry)) walk number) (calls most (now (file .entry))) ⌝ }
 {
@@ -54,7 +54,7 @@ pub fn count_calls(file: &[u8], most: usize, walk: u8, number: u8) -> usize
     count
 }
 
-// How many calls do not agree with the walks.
+// How many calls do not agree with the definitions.
 pub fn count_different(file: &[u8], strip: &mut [u8]) -> usize
     ensures { λ r. ⌜ r ≡ countOf (differs (now (file .entry))) (calls (length (now (strip .entry))) (now (file .entry))) ⌝ }
     ensures { λ r. ⌜ now (strip .exit) ≡ allReplayed (now (file .entry)) (now (strip .entry)) ⌝ }

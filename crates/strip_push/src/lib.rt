@@ -2,7 +2,7 @@
 // A function whose name ends in `_at` takes the field's value from there too; so a field's range and its value cannot part.
 ghost use Prim.Native.Nat.{_+_, _≤_, _<_};
 ghost use lib.ListN.{length};
-ghost use Rattle.format.specs.Strip.{Entry, code, u8At, bitAt, lowBitsAt, u16At, u24At, metric24At, wide16At, u32At, ip4At, bytesAt};
+ghost use Rattle.format.specs.Strip.{Entry, code, u8At, bitAt, lowBitsAt, u16At, u24At, metric24At, wide16At, u32At, u64At, ip4At, bytesAt};
 ghost use Rattle.format.specs.Prefix.{ip6At};
 ghost use Rattle.format.specs.Wrote.{Wrote};
 use strip_ids::kind::BYTES;
@@ -13,6 +13,7 @@ use strip_ids::kind::OPEN;
 use strip_ids::kind::U8;
 use strip_ids::kind::U16;
 use strip_ids::kind::U32;
+use strip_ids::kind::U64;
 use strip_put::put_head;
 use strip_put::put_head_at;
 use strip_put::put_u8;
@@ -90,6 +91,23 @@ pub fn push_u32(
 {
     let a = put_head_at(strip, at, U32, id, p, n, o);
     put_u32(strip, a, value)
+}
+
+pub fn push_u64(
+    strip: &mut [u8],
+    at: usize,
+    id: u8,
+    p: usize,
+    n: usize,
+    o: u32,
+    value: u64,
+) -> usize
+    requires { ⌜ at + 18 ≤ length (now strip) ⌝ }
+    requires { ⌜ o + (p + n) < 4294967296 ⌝ }
+    ensures { λ r. ⌜ Wrote (now (strip .entry)) at (code (Entry.u64 id (o + p) (o + p + n) value)) (now (strip .exit)) r ⌝ }
+{
+    let a = put_head_at(strip, at, U64, id, p, n, o);
+    put_u64(strip, a, value)
 }
 
 pub fn push_ipv4(
@@ -228,6 +246,15 @@ pub fn push_u32_at(strip: &mut [u8], at: usize, id: u8, body: &[u8], p: usize, o
     ensures { λ r. ⌜ Wrote (now (strip .entry)) at (code (u32At id (now (body .entry)) o p)) (now (strip .exit)) r ⌝ }
 {
     push_u32(strip, at, id, p, 4, o, read_be_u32(body, p))
+}
+
+pub fn push_u64_at(strip: &mut [u8], at: usize, id: u8, body: &[u8], p: usize, o: u32) -> usize
+    requires { ⌜ at + 18 ≤ length (now strip) ⌝ }
+    requires { ⌜ p + 8 ≤ length (now body) ⌝ }
+    requires { ⌜ o + length (now body) < 4294967296 ⌝ }
+    ensures { λ r. ⌜ Wrote (now (strip .entry)) at (code (u64At id (now (body .entry)) o p)) (now (strip .exit)) r ⌝ }
+{
+    push_u64(strip, at, id, p, 8, o, read_be_u64(body, p))
 }
 
 pub fn push_ipv4_at(strip: &mut [u8], at: usize, id: u8, body: &[u8], p: usize, o: u32) -> usize

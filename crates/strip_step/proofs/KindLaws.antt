@@ -1,39 +1,18 @@
--- The kinds of entries: the size of a known kind's body, and that every body but that of a close has at least nine bytes.
-use Prim.Native.Nat.{ℕ, _≤_}
-use native.Mathlib.Omega.{arith}
-use mathlib.Core.Path.{_≡_, refl, ap, _∙_}
-use mathlib.Core.Bool.{Bool, true, false, cond}
-use mathlib.Core.List.{List, [], _∷_}
-use mathlib.Core.Option.{Option, none, some}
-use lib.Dec.{eqb, leb}
-use borrow.Author.Tests.{eqb-true, leb-true}
-use Rattle.format.specs.Strip.{closeKind, bodies, lengthIn, bodyLength}
-use Rattle.strip_step.specs.Answers.{bodySize}
+-- A step where a kind's byte has been read: for every kind, of its number and the length of its body.
+use Prim.Native.Nat.{ℕ, _+_, _≤_, _<_}
+use mathlib.Core.Path.{_≡_}
+use mathlib.Core.List.{List}
+use mathlib.Core.Option.{some}
+use lib.ListN.{length}
+use borrow.Author.Tests.{le-leb, lt-leb}
+use Rattle.format.specs.Strip.{bodyLength, entryAt, bodyAt}
+use Rattle.strip_step.specs.Answers.{entryOf, stepOf}
+use Rattle.strip_step.specs.declared.Step.the-variants as S
 
-abbrev size : Option ℕ → ℕ
-size o = elim o [ none ↦ 0 | some n ↦ n ]
+-- The strip ends before the body does.
+pub cut : (k n : ℕ) (s : List ℕ) (q : ℕ) → bodyLength k ≡ some n → length s < q + n → S.Refused 8 ≡ stepOf (bodyAt k s q)
+cut k n s q e h = rw (bodyAt, e, lt-leb (q + n) (length s) h)
 
-pub size-of : (k n : ℕ) → bodyLength k ≡ some n → bodySize k ≡ n
-size-of k n e = ap size e
-
--- Whether every body of a table has nine bytes or more, but for a close's.
-abbrev long : List (ℕ × ℕ) → Bool
-long [] = true
-long (b ∷ bs) = cond (eqb (b .0) closeKind) (long bs) (cond (leb 9 (b .1)) (long bs) false)
-
-nine-in : (bs : List (ℕ × ℕ)) (k : ℕ) → long bs ≡ true → (lengthIn bs k ≡ none → ⊥) → (k ≡ closeKind → ⊥) → 9 ≤ size (lengthIn bs k)
-nine-in [] k l known other = absurd (known refl)
-nine-in (b ∷ bs) k l known other = go (eqb k (b .0)) refl (eqb (b .0) closeKind) refl (leb 9 (b .1)) refl l known (nine-in bs k)
-  where
-    go : (t : Bool) → eqb k (b .0) ≡ t → (u : Bool) → eqb (b .0) closeKind ≡ u → (w : Bool) → leb 9 (b .1) ≡ w
-        → cond u (long bs) (cond w (long bs) false) ≡ true → (cond t (some (b .1)) (lengthIn bs k) ≡ none → ⊥)
-        → (long bs ≡ true → (lengthIn bs k ≡ none → ⊥) → (k ≡ closeKind → ⊥) → 9 ≤ size (lengthIn bs k)) → 9 ≤ size (cond t (some (b .1)) (lengthIn bs k))
-    go true e true f w g l n ih = absurd (other (eqb-true k (b .0) e ∙ eqb-true (b .0) closeKind f))
-    go true e false f true g l n ih = leb-true 9 (b .1) g
-    go true e false f false g l n ih = let z : _≡_ {A = ℕ} 0 1 = cc in absurd (omega arith)
-    go false e true f w g l n ih = ih l n other
-    go false e false f true g l n ih = ih l n other
-    go false e false f false g l n ih = let z : _≡_ {A = ℕ} 0 1 = cc in absurd (omega arith)
-
-pub nine : (k : ℕ) → (bodyLength k ≡ none → ⊥) → (k ≡ 2 → ⊥) → 9 ≤ bodySize k
-nine k known other = nine-in bodies k refl known other
+-- The body is whole.
+pub whole : (k n : ℕ) (s : List ℕ) (q : ℕ) → bodyLength k ≡ some n → q + n ≤ length s → S.Entry (entryOf (entryAt k s q)) (q + n) ≡ stepOf (bodyAt k s q)
+whole k n s q e h = rw (bodyAt, e, le-leb (q + n) (length s) h)

@@ -2,11 +2,10 @@
 // refusal's number.
 ghost use mathlib.Core.Path.{_≡_};
 ghost use Prim.Native.Nat.{_+_, _≤_};
-ghost use mathlib.Core.Option.{none};
-ghost use lib.ListN.{length};
-ghost use Rattle.format.specs.Strip.{bodyLength, entryAt, stepAt};
-ghost use Rattle.util.specs.Answers.{lengthOf};
-ghost use Rattle.strip_step.specs.Answers.{entryOf, stepOf, bodySize};
+ghost use lib.ListN.{length, getD};
+ghost use Rattle.format.specs.Bytes.{be32At};
+ghost use Rattle.format.specs.Strip.{bodyAt, stepAt};
+ghost use Rattle.strip_step.specs.Answers.{fieldOf, stepOf};
 use strip_ids::kind::BYTES;
 use strip_ids::kind::BYTES_BODY;
 use strip_ids::kind::CLOSE;
@@ -23,56 +22,31 @@ use strip_ids::kind::U16;
 use strip_ids::kind::U16_BODY;
 use strip_ids::kind::U32;
 use strip_ids::kind::U32_BODY;
-use util::Length;
+use strip_ids::kind::U64;
+use strip_ids::kind::U64_BODY;
 use util::read_be_u16;
 use util::read_be_u32;
 use util::read_be_u64;
 
-// An entry: where its field lies, and its value. An IPv4 address is the number of its bytes, an IPv6 address the numbers
-// of its two halves.
+// Where a field lies: its id, and its range in the packet.
+pub struct Field {
+    pub id: u8,
+    pub start: u32,
+    pub end: u32,
+}
+
+// An entry: its field, and the value. An IPv4 address is the number of its bytes, an IPv6 address the numbers of its two
+// halves.
 pub enum Entry {
-    Open {
-        id: u8,
-        start: u32,
-        end: u32,
-    },
+    Open(Field),
     Close,
-    U8 {
-        id: u8,
-        start: u32,
-        end: u32,
-        value: u8,
-    },
-    U16 {
-        id: u8,
-        start: u32,
-        end: u32,
-        value: u16,
-    },
-    U32 {
-        id: u8,
-        start: u32,
-        end: u32,
-        value: u32,
-    },
-    Ipv4 {
-        id: u8,
-        start: u32,
-        end: u32,
-        address: u32,
-    },
-    Ipv6 {
-        id: u8,
-        start: u32,
-        end: u32,
-        high: u64,
-        low: u64,
-    },
-    Bytes {
-        id: u8,
-        start: u32,
-        end: u32,
-    },
+    U8(Field, u8),
+    U16(Field, u16),
+    U32(Field, u32),
+    Ipv4(Field, u32),
+    Ipv6(Field, u64, u64),
+    Bytes(Field),
+    U64(Field, u64),
 }
 
 pub enum Step {
@@ -88,72 +62,6 @@ const NO_KIND: u8 = 7;
 
 const ENTRY_CUT: u8 = 8;
 
-// The length of a kind's body.
-fn body_length(kind: u8) -> Length
-    ensures { λ r. ⌜ r ≡ lengthOf (bodyLength kind) ⌝ }
-{
-    match kind {
-        OPEN => Length::Bytes(OPEN_BODY),
-        CLOSE => Length::Bytes(CLOSE_BODY),
-        U8 => Length::Bytes(U8_BODY),
-        U16 => Length::Bytes(U16_BODY),
-        U32 => Length::Bytes(U32_BODY),
-        IPV4 => Length::Bytes(IPV4_BODY),
-        IPV6 => Length::Bytes(IPV6_BODY),
-        BYTES => Length::Bytes(BYTES_BODY),
-        _ => Length::Nothing,
-    }
-}
-
-// The entry of a kind whose body stands at q.
-fn entry_at(kind: u8, strip: &[u8], q: usize) -> Entry
-    requires { ⌜ q + bodySize kind ≤ length (now strip) ⌝ }
-    requires { ⌜ (bodyLength kind ≡ none → ⊥) ⌝ }
-    ensures { λ r. ⌜ r ≡ entryOf (entryAt kind (now (strip .entry)) q) ⌝ }
-{
-    if kind == CLOSE {
-        return Entry::Close;
-    }
-    let id = strip[q];
-    let start = read_be_u32(strip, q + 1);
-    let end = read_be_u32(strip, q + 5);
-    match kind {
-        OPEN => Entry::Open { id, start, end },
-        U8 => Entry::U8 {
-            id,
-            start,
-            end,
-            value: strip[q + 9],
-        },
-        U16 => Entry::U16 {
-            id,
-            start,
-            end,
-            value: read_be_u16(strip, q + 9),
-        },
-        U32 => Entry::U32 {
-            id,
-            start,
-            end,
-            value: read_be_u32(strip, q + 9),
-        },
-        IPV4 => Entry::Ipv4 {
-            id,
-            start,
-            end,
-            address: read_be_u32(strip, q + 9),
-        },
-        IPV6 => Entry::Ipv6 {
-            id,
-            start,
-            end,
-            high: read_be_u64(strip, q + 9),
-            low: read_be_u64(strip, q + 17),
-        },
-        _ => Entry::Bytes { id, start, end },
-    }
-}
-
 pub fn step_at(strip: &[u8], place: usize) -> Step
     ensures { λ r. ⌜ r ≡ stepOf (stepAt (now (strip .entry)) place) ⌝ }
 {
@@ -163,13 +71,87 @@ pub fn step_at(strip: &[u8], place: usize) -> Step
     if place == strip.len() {
         return Step::End;
     }
-    let kind = strip[place];
-    let Length::Bytes(n) = body_length(kind) else {
-        return Step::Refused(NO_KIND);
-    };
-    let q = place + 1;
-    if strip.len() - q < n {
-        return Step::Refused(ENTRY_CUT);
+    body_at(strip[place], strip, place + 1)
+}
+
+// What stands where the kind's byte has been read, and its body begins at q. The one place where a strip's kinds are told apart.
+fn body_at(kind: u8, strip: &[u8], q: usize) -> Step
+    requires { ⌜ q ≤ length (now strip) ⌝ }
+    ensures { λ r. ⌜ r ≡ stepOf (bodyAt kind (now (strip .entry)) q) ⌝ }
+{
+    let left = strip.len() - q;
+    match kind {
+        OPEN => {
+            if left < OPEN_BODY {
+                return Step::Refused(ENTRY_CUT);
+            }
+            let entry = Entry::Open(field_at(strip, q));
+            Step::Entry(entry, q + OPEN_BODY)
+        }
+        CLOSE => Step::Entry(Entry::Close, q + CLOSE_BODY),
+        U8 => {
+            if left < U8_BODY {
+                return Step::Refused(ENTRY_CUT);
+            }
+            let entry = Entry::U8(field_at(strip, q), strip[q + 9]);
+            Step::Entry(entry, q + U8_BODY)
+        }
+        U16 => {
+            if left < U16_BODY {
+                return Step::Refused(ENTRY_CUT);
+            }
+            let entry = Entry::U16(field_at(strip, q), read_be_u16(strip, q + 9));
+            Step::Entry(entry, q + U16_BODY)
+        }
+        U32 => {
+            if left < U32_BODY {
+                return Step::Refused(ENTRY_CUT);
+            }
+            let entry = Entry::U32(field_at(strip, q), read_be_u32(strip, q + 9));
+            Step::Entry(entry, q + U32_BODY)
+        }
+        IPV4 => {
+            if left < IPV4_BODY {
+                return Step::Refused(ENTRY_CUT);
+            }
+            let entry = Entry::Ipv4(field_at(strip, q), read_be_u32(strip, q + 9));
+            Step::Entry(entry, q + IPV4_BODY)
+        }
+        IPV6 => {
+            if left < IPV6_BODY {
+                return Step::Refused(ENTRY_CUT);
+            }
+            let field = field_at(strip, q);
+            let high = read_be_u64(strip, q + 9);
+            let low = read_be_u64(strip, q + 17);
+            let entry = Entry::Ipv6(field, high, low);
+            Step::Entry(entry, q + IPV6_BODY)
+        }
+        BYTES => {
+            if left < BYTES_BODY {
+                return Step::Refused(ENTRY_CUT);
+            }
+            let entry = Entry::Bytes(field_at(strip, q));
+            Step::Entry(entry, q + BYTES_BODY)
+        }
+        U64 => {
+            if left < U64_BODY {
+                return Step::Refused(ENTRY_CUT);
+            }
+            let entry = Entry::U64(field_at(strip, q), read_be_u64(strip, q + 9));
+            Step::Entry(entry, q + U64_BODY)
+        }
+        _ => Step::Refused(NO_KIND),
     }
-    Step::Entry(entry_at(kind, strip, q), q + n)
+}
+
+fn field_at(strip: &[u8], q: usize) -> Field
+    requires { ⌜ q + 9 ≤ length (now strip) ⌝ }
+    ensures { λ r. ⌜ r ≡ fieldOf (getD (now (strip .entry)) q 0) (be32At (now (strip .entry)) (q + 1)) (be32At (now (strip .entry)) (q + 5)) ⌝ }
+{
+    Field {
+        id: strip[q],
+        start: read_be_u32(strip, q + 1),
+        end: read_be_u32(strip, q + 5),
+    }
 }

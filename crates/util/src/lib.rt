@@ -40,8 +40,7 @@ pub fn read_ipv4_addr(body: &[u8], p: usize) -> u32
     read_be_u32(body, p)
 }
 
-// A number of bytes, if there is one: how long an entry is that stands at a place, or the body of a kind, or the octets of
-// a prefix.
+// A number of bytes, if there is one: how long an entry or a block is that stands at a place, or the octets of a prefix.
 pub enum Length {
     Bytes(usize),
     Nothing,

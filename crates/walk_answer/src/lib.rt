@@ -41,21 +41,21 @@ pub struct Answer {
 }
 
 // The largest data and offset, which keep every place within 32 bits.
-const MAX_DATA: usize = 65535;
+pub const MAX_DATA: usize = 65535;
 
-const MAX_OFFSET: u64 = 4294901760;
+pub const MAX_OFFSET: u64 = 4294901760;
 
 // The refusals of every walk, in their order; the last is for too little room. A header that is read by itself has the first
-// and the fourth of them.
+// and the fourth of them, a block after a packet the second, the third and the last.
 pub const NO_VERSION: u8 = 1;
 
-const TOO_MUCH: u8 = 2;
+pub const TOO_MUCH: u8 = 2;
 
-const TOO_FAR: u8 = 3;
+pub const TOO_FAR: u8 = 3;
 
 pub const TOO_LITTLE: u8 = 4;
 
-const NO_ROOM: u8 = 5;
+pub const NO_ROOM: u8 = 5;
 
 // The number of the first refusal of a call that needs this many bytes at least, or 0.
 pub fn refusal_of(version: u8, data: &[u8], offset: u64, least: usize) -> u8

@@ -1,7 +1,7 @@
-//! What the benchmark runs over: one kind of message after another, and the
-//! published captures.
+//! What the benchmark runs over: one kind of message after another, the
+//! published captures, and blocks of each kind.
 
-use inputs::{Class, Input, Rng, lsa, update};
+use inputs::{Class, Input, Rng, lsa, update, with_length_field};
 use oracle::Walk;
 
 /// Where the data stands in its packet: after an Ethernet, an IPv4 and an
@@ -180,6 +180,28 @@ fn prefix(rng: &mut Rng, length: u8) -> Vec<u8> {
     let mut entry = rng.bytes(4 + usize::from(length).div_ceil(32) * 4);
     entry[0] = length;
     entry
+}
+
+/// Blocks by row: what it is called, the reading, the length of the data and the
+/// length field. Trailers have the digests of RFC 7166, or none.
+pub const BLOCKS: [(&str, Walk, usize, u16); 9] = [
+    ("LLS, 4 bytes", Walk::Lls, 4, 1),
+    ("LLS, 12 bytes", Walk::Lls, 12, 3),
+    ("LLS, 1,024 bytes", Walk::Lls, 1_024, 256),
+    ("LLS, absent", Walk::Lls, 12, 4),
+    ("trailer, 16 bytes", Walk::AuthTrailer, 16, 16),
+    ("trailer, 36 bytes", Walk::AuthTrailer, 36, 36),
+    ("trailer, 48 bytes", Walk::AuthTrailer, 48, 48),
+    ("trailer, 80 bytes", Walk::AuthTrailer, 80, 80),
+    ("trailer, absent", Walk::AuthTrailer, 36, 37),
+];
+
+/// The blocks of a row, with random contents.
+pub fn blocks(row: usize) -> Vec<Input> {
+    let (_, walk, length, field) = BLOCKS[row];
+    let mut rng = Rng::new(row as u64);
+    let block = |_| input(3, walk, with_length_field(&mut rng, length, field), 0);
+    (0..64).map(block).collect()
 }
 
 /// An input that costs a walk much, and why.

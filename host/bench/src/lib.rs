@@ -1,5 +1,5 @@
-//! What the benchmark runs: the proved walks of `libospf.a`, the same strip
-//! written by careful Rust, and the reference's own functions over the
+//! What the benchmark runs: the proved walks and readings of blocks of
+//! `libospf.a`, the same strip written by careful Rust, and the reference's own functions over the
 //! recording stand-in; the walks with every field read afterwards, in Rust and
 //! in C; and the corpus it runs them on.
 
@@ -20,6 +20,8 @@ pub const CAREFUL: Walks = Walks {
     headers: careful::lsa_headers,
     update: careful::lsu_lsas,
     lsa: careful::lsa,
+    lls: careful::blocks::lls,
+    auth_trailer: careful::blocks::auth_trailer,
 };
 
 /// What is compared.
@@ -78,6 +80,7 @@ pub fn walked<'s>(input: &Input, strip: &'s mut [u8]) -> Strip<'s> {
         Walk::Headers => ospf_strip::lsa_headers(version, data, offset, strip),
         Walk::Update => ospf_strip::lsu_lsas(version, data, input.count, offset, strip),
         Walk::Lsa => ospf_strip::lsa(version, data, offset, strip),
+        Walk::Lls | Walk::AuthTrailer => panic!("no walk: {:?}", input.walk),
     };
     strip.expect("an accepted call")
 }

@@ -1,10 +1,11 @@
 //! Runs the port, careful Rust and the reference over one corpus and prints
-//! what each takes, what reading every field adds, and what the LS checksum
-//! takes: `bench [ROUNDS]`; reading on a corpus of another seed: `bench reading
-//! ROUNDS SEED`; the checksum alone: `bench checksums ROUNDS`. The other words
-//! are what it calls itself with, under valgrind: `count`, `checksum` and
-//! `stack`.
+//! what each takes, what reading every field adds, and what the LS checksum and
+//! the blocks take: `bench [ROUNDS]`; reading on a corpus of another seed:
+//! `bench reading ROUNDS SEED`; the checksum or the blocks alone: `bench
+//! checksums [ROUNDS]`, `bench blocks [ROUNDS]`. The other words are what it
+//! calls itself with, under valgrind: `count`, `checksum`, `block` and `stack`.
 
+mod blocks;
 mod checksums;
 mod count;
 mod growth;
@@ -66,29 +67,39 @@ fn main() -> ExitCode {
     let words: Vec<String> = env::args().skip(1).collect();
     let words: Vec<&str> = words.iter().map(String::as_str).collect();
     match words.as_slice() {
-        [] => all(ROUNDS),
         ["count", rest @ ..] => return count::child(rest),
         ["checksum", rest @ ..] => return checksums::child(rest),
+        ["block", rest @ ..] => return blocks::child(rest),
         ["stack"] => stack::child(),
         ["reading", rounds, seed] => match (rounds.parse(), seed.parse()) {
             (Ok(rounds @ 1..), Ok(seed)) => reading::print_seeded(rounds, seed),
             _ => return usage(),
         },
-        ["checksums", rounds] => match rounds.parse() {
-            Ok(rounds @ 1..) => checksums::print(rounds),
-            _ => return usage(),
-        },
-        [rounds] => match rounds.parse() {
-            Ok(rounds @ 1..) => all(rounds),
-            _ => return usage(),
-        },
-        _ => return usage(),
+        ["checksums", rest @ ..] => return printed(checksums::print, rest),
+        ["blocks", rest @ ..] => return printed(blocks::print, rest),
+        rest => return printed(all, rest),
     }
     ExitCode::SUCCESS
 }
 
+/// Prints by as many rounds as the words say, or as is usual.
+fn printed(print: fn(usize), words: &[&str]) -> ExitCode {
+    let rounds = match words {
+        [] => Ok(ROUNDS),
+        [rounds] => rounds.parse(),
+        _ => return usage(),
+    };
+    let Ok(rounds @ 1..) = rounds else {
+        return usage();
+    };
+    print(rounds);
+    ExitCode::SUCCESS
+}
+
 fn usage() -> ExitCode {
-    eprintln!("usage: bench [ROUNDS], bench reading ROUNDS SEED, or bench checksums ROUNDS");
+    eprintln!(
+        "usage: bench [ROUNDS], bench reading ROUNDS SEED, bench checksums [ROUNDS], or bench blocks [ROUNDS]"
+    );
     ExitCode::from(2)
 }
 
@@ -106,11 +117,18 @@ fn all(rounds: usize) {
     println!();
     checksums::print(rounds);
     println!();
+    blocks::print(rounds);
+    println!();
     stack::print();
 }
 
 fn heading() {
     print!("{:26}{:>7}", "", "bytes");
+    columns();
+}
+
+/// The columns of times and of instructions.
+fn columns() {
     for _ in 0..2 {
         print!(" |{:>9}{:>9}{:>10}", "port", "careful", "reference");
         print!("{:>6}{:>6}", "p/c", "p/r");

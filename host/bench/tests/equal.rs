@@ -1,8 +1,8 @@
-//! The hand-written walks give the port's answers and strips, and the
-//! hand-written checksums those of the second implementation.
+//! The hand-written walks and readings of blocks give the port's answers and
+//! strips, and the hand-written checksums those of the second implementation.
 
 use bench::careful::checksum::{CAREFUL as WORDS, PLAIN};
-use bench::corpus::{KINDS, worst};
+use bench::corpus::{BLOCKS, KINDS, blocks, worst};
 use bench::{CAREFUL, PORT};
 use inputs::{CLASSES, Input};
 
@@ -31,6 +31,19 @@ fn on_the_corpus() {
     }
     for worst in worst() {
         check(&worst.input);
+    }
+}
+
+/// A row's blocks are there, or absent, as its name says.
+#[test]
+fn on_the_blocks() {
+    for (row, (name, _, length, _)) in BLOCKS.into_iter().enumerate() {
+        for input in blocks(row) {
+            check(&input);
+            let answer = PORT.run(&input, &mut [0; 75]);
+            let expected = if name.ends_with("absent") { 0 } else { length };
+            assert_eq!(answer >> 32, (expected as u64) << 8, "{name}");
+        }
     }
 }
 

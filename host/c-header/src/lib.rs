@@ -12,15 +12,24 @@ const BEGIN: &str =
     "/* Generated from here on: `cargo run --offline -p c-header` in host/ writes it anew. */\n";
 const END: &str = "/* Generated up to here. */\n";
 
-/// The ids that mean the same in both versions, as crates/strip_ids/src/lib.rt
-/// calls them.
-pub const BOTH: [(u8, &str); 6] = [
+/// The ids that mean the same in both versions, as crates/strip_ids calls them.
+pub const BOTH: [(u8, &str); 16] = [
     (96, "LINK"),
     (97, "TOS_METRIC_OR_PREFIX"),
     (98, "ATTACHED_ROUTER"),
     (112, "HEADER"),
     (113, "LSA"),
     (114, "OUTER"),
+    (128, "LLS_CHECKSUM"),
+    (129, "LLS_DATA_LENGTH"),
+    (130, "LLS_TLVS"),
+    (136, "LLS"),
+    (144, "AUTH_TYPE"),
+    (145, "AUTH_DATA_LEN"),
+    (146, "SA_ID"),
+    (147, "CRYPTO_SEQUENCE_NUMBER"),
+    (148, "AUTH_DATA"),
+    (152, "AUTH_TRAILER"),
 ];
 
 /// Where the header is.
@@ -38,16 +47,15 @@ pub fn renewed(header: &str) -> Option<String> {
 
 /// The generated part.
 pub fn generated() -> String {
-    let kinds = || (1..).zip(listing::KINDS);
+    let kinds = listing::KINDS;
+    let numbers = kinds.map(|(n, word, _)| (format!("OSPF_KIND_{}", constant(word)), n.into()));
+    let bodies = kinds.map(|(_, word, n)| (format!("OSPF_BODY_{}", constant(word)), n));
     let both = BOTH.map(|(id, name)| (format!("OSPF_ID_{name}"), id.into()));
     [
-        enumeration(
-            "What an entry is: the first byte of each.",
-            kinds().map(|(kind, (word, _))| (format!("OSPF_KIND_{}", constant(word)), kind)),
-        ),
+        enumeration("What an entry is: the first byte of each.", numbers),
         enumeration(
             "How many bytes follow it: id, start and end of every kind but a close, then the value.",
-            kinds().map(|(_, (word, body))| (format!("OSPF_BODY_{}", constant(word)), body)),
+            bodies,
         ),
         enumeration("The fields' ids in version 2.", fields(V2)),
         enumeration("The fields' ids in version 3.", fields(V3)),

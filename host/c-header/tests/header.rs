@@ -53,7 +53,8 @@ fn ids_are_those_of_the_proved_crates() {
             assert_eq!(here.get(name), Some(id), "version {version}, {name}");
         }
     }
-    assert_eq!(enumerators("OSPF_ID_"), constants("lib.rt"));
+    let both = ["lib.rt", "block.rt"].into_iter().flat_map(constants);
+    assert_eq!(enumerators("OSPF_ID_"), both.collect());
 }
 
 #[test]

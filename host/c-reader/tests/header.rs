@@ -24,7 +24,7 @@ const PROGRAM: &str = "
 uint64_t use(const uint8_t *strip, size_t length);
 uint64_t use(const uint8_t *strip, size_t length)
 {
-    uint64_t sum = ospf_number(1) + ospf_length(1) + ospf_compared(1);
+    uint64_t sum = ospf_number(1) + ospf_length(1) + ospf_block(1) + ospf_compared(1) + ospf_checksum(1);
     ospf_entry entry = ospf_begin();
     while ((entry = ospf_next(strip, length, entry)).kind != 0) {
         sum += ospf_id(entry) + ospf_start(entry) + ospf_end(entry);
@@ -33,6 +33,7 @@ uint64_t use(const uint8_t *strip, size_t length)
         case OSPF_KIND_U16: sum += ospf_u16(entry); break;
         case OSPF_KIND_U32: sum += ospf_u32(entry); break;
         case OSPF_KIND_IPV6: sum += *ospf_ipv6(entry); break;
+        case OSPF_KIND_U64: sum += ospf_u64(entry); break;
         }
     }
     return sum + ospf_step(strip, length, 3).next + (ospf_name(2, 0) == NULL);

@@ -5,7 +5,7 @@ use c_reader::{Entry, Step, next_all, read_all, step};
 /// A kind's entry as it is listed, and as it must be read, with a next place
 /// as at place 0.
 fn listed(kind: u8, id: u8, start: u32, end: u32) -> (String, Entry) {
-    let (word, body) = listing::KINDS[usize::from(kind) - 1];
+    let (word, body) = listing::kind(kind).expect("a kind");
     let (text, value) = match word {
         "u8" => (" 254", (0, 254)),
         "u16" => (" 65244", (0, 65_244)),
@@ -15,6 +15,7 @@ fn listed(kind: u8, id: u8, start: u32, end: u32) -> (String, Entry) {
             " FEDCBA98765432100123456789ABCDEF",
             (0xFEDC_BA98_7654_3210, 0x0123_4567_89AB_CDEF),
         ),
+        "u64" => (" 18364758544493064720", (0, 0xFEDC_BA98_7654_3210)),
         _ => ("", (0, 0)),
     };
     let mut entry = Entry {
@@ -32,11 +33,16 @@ fn listed(kind: u8, id: u8, start: u32, end: u32) -> (String, Entry) {
     (format!("{word} {id} {start} {end}{text}"), entry)
 }
 
+/// The kinds by their numbers.
+fn kinds() -> impl Iterator<Item = u8> {
+    listing::KINDS.into_iter().map(|(kind, _, _)| kind)
+}
+
 /// Every kind, at ids and places of all bytes.
 fn entries() -> Vec<(Vec<u8>, Entry)> {
     let places = [(0, 0, 0), (25, 20, 21), (114, 0x0102_0304, 0x0506_0708)];
     let places = [places.as_slice(), &[(255, 0xFFFE_FDFC, 0xFBFA_F9F8)]].concat();
-    let all = (1..=8).flat_map(|kind| places.iter().map(move |&(id, s, e)| listed(kind, id, s, e)));
+    let all = kinds().flat_map(|kind| places.iter().map(move |&(id, s, e)| listed(kind, id, s, e)));
     all.map(|(line, entry)| (listing::strip(&line), entry))
         .collect()
 }
@@ -75,7 +81,7 @@ fn every_cut() {
 
 #[test]
 fn unknown_kinds() {
-    for kind in (0..=255).filter(|kind| !(1..=8).contains(kind)) {
+    for kind in (0..=255).filter(|&kind| listing::kind(kind).is_none()) {
         for after in [0, 1, 12, 25, 26, 60] {
             let strip = [vec![2, kind], vec![1; after]].concat();
             assert_eq!(step(&strip, 1), Step::Refused(7), "{kind}");
@@ -102,7 +108,7 @@ fn the_end_and_beyond() {
 fn check_whole(strip: &[u8], entries: &[Entry], refused: u8) {
     let mut place = 0;
     let placed = entries.iter().map(|entry| {
-        place += 1 + listing::KINDS[usize::from(entry.kind) - 1].1;
+        place += listed(entry.kind, 0, 0, 0).1.next;
         Entry {
             next: place,
             ..*entry
@@ -118,10 +124,9 @@ fn check_whole(strip: &[u8], entries: &[Entry], refused: u8) {
 /// far from it. Then the same with a last byte that is no kind.
 #[test]
 fn whole_strips() {
-    let kinds = || 1..=8;
     let orders = kinds().flat_map(|a| kinds().flat_map(move |b| kinds().map(move |c| [a, b, c])));
     for order in orders {
-        let listed = order.map(|kind| listed(kind, kind * 31, 0xFFFF_FF00, 0xFFFF_FF04));
+        let listed = order.map(|kind| listed(kind, kind * 25, 0xFFFF_FF00, 0xFFFF_FF04));
         let lines = listed.each_ref().map(|(line, _)| line.as_str()).join("\n");
         for closes in [0, 1, 24, 25, 26, 27, 60] {
             let mut strip = [listing::strip(&lines), vec![2; closes]].concat();

@@ -15,13 +15,14 @@ const AUTHENTICATION_HEADER: u8 = 51;
 
 /// An OSPF packet: its version, its message type, its body and the body's
 /// place in the frame. The body ends where the packet length says, or where
-/// the IP payload ends if that is earlier.
+/// the IP payload ends if that is earlier; what follows it there may be blocks.
 #[derive(Clone, Copy, Debug, PartialEq, Eq)]
 pub struct Ospf<'a> {
     pub version: u8,
     pub message: u8,
     pub body: &'a [u8],
     pub place: usize,
+    pub after: &'a [u8],
 }
 
 /// The OSPF packet in a frame, if there is one.
@@ -38,12 +39,13 @@ pub fn ospf<'a>(frame: &Frame<'a>) -> Option<Ospf<'a>> {
         3 => 16,
         _ => return None,
     };
-    let length = short(packet, 2)? as usize;
+    let length = usize::from(short(packet, 2)?).min(packet.len());
     Some(Ospf {
         version: packet[0],
         message: packet[1],
-        body: packet.get(header..length.min(packet.len()))?,
+        body: packet.get(header..length)?,
         place: at + header,
+        after: &packet[length..],
     })
 }
 

@@ -3,7 +3,7 @@
 use std::collections::BTreeMap;
 
 use captures::{frames, inputs, ospf, published};
-use oracle::Walk;
+use oracle::{Call, Outcome, Walk};
 
 /// File, frames, version, then packets by type: hello, database
 /// description, request, update, acknowledgment.
@@ -103,4 +103,31 @@ fn router_lsa_with_nt() {
     assert_eq!(inputs[1].offset, 62);
     assert_eq!(inputs[1].data, inputs[0].data[4..]);
     assert_eq!(inputs[1].data[20] & 0x10, 0x10);
+}
+
+/// The trailer that follows a Hello, 16 bytes and a digest of HMAC-SHA-256: the
+/// only block in the captures whose packet announces it.
+#[test]
+fn authentication_trailer_of_a_hello() {
+    let files = published().expect("the captures");
+    let (name, file) = &files[11];
+    assert_eq!(name, "ospf3_auth.pcapng");
+    let frames = frames(file).expect("a capture file");
+    let hello = ospf(&frames[0]).expect("a packet");
+    let call = Call {
+        version: hello.version,
+        walk: Walk::AuthTrailer,
+        data: hello.after,
+        count: 0,
+        offset: (hello.place + hello.body.len()) as u64,
+    };
+    let Outcome::Accepted { strip, block, .. } = call.run() else {
+        panic!("no trailer");
+    };
+    assert_eq!((hello.after.len(), block), (48, 48));
+    // The values of its four fields: an open before them, 10 bytes before each.
+    assert_eq!(strip[20..22], [0, 1]);
+    assert_eq!(strip[32..34], [0, 48]);
+    assert_eq!(strip[44..46], [0, 1]);
+    assert_eq!(strip[56..64], 0x52DA_4E0E_u64.to_be_bytes());
 }

@@ -1,10 +1,11 @@
-//! Compares walks with the oracle, in one process.
+//! Compares walks and readings of blocks with the oracle, in one process.
 //!
 //! Each input is run with four lent buffers: empty, one byte short, exactly
-//! full, and larger. Compared are the packed answer and every byte of the
-//! buffer, and of a margin on both sides of it: nothing may be written on a
-//! refusal, nothing past the strip, nothing outside the buffer. Records and
-//! tail are not in the packed answer; the stored samples have them.
+//! full, and larger; where nothing is needed, with an empty and a larger one.
+//! Compared are the packed answer and every byte of the buffer, and of a margin
+//! on both sides of it: nothing may be written on a refusal or for an absent
+//! block, nothing past the strip, nothing outside the buffer. Records and tail
+//! are not in the packed answer; the stored samples have them.
 
 use std::collections::BTreeMap;
 use std::fmt;
@@ -13,29 +14,35 @@ use inputs::{Class, Input, Take};
 use oracle::Walk;
 use ospf_strip::exports;
 
-/// The walks to compare, in the shapes of the static library's exports.
+/// The walks and readings to compare, in the shapes of the static library's exports.
 #[derive(Clone, Copy)]
 pub struct Walks {
     pub headers: fn(version: u8, data: &[u8], offset: u64, strip: &mut [u8]) -> u64,
     pub update: fn(version: u8, data: &[u8], count: u32, offset: u64, strip: &mut [u8]) -> u64,
     pub lsa: fn(version: u8, data: &[u8], offset: u64, strip: &mut [u8]) -> u64,
+    pub lls: fn(data: &[u8], offset: u64, strip: &mut [u8]) -> u64,
+    pub auth_trailer: fn(data: &[u8], offset: u64, strip: &mut [u8]) -> u64,
 }
 
-/// The proved walks, behind `ospf-strip`.
+/// The proved ones, behind `ospf-strip`.
 pub const PROVED: Walks = Walks {
     headers: exports::ospf_lsa_headers,
     update: exports::ospf_lsu_lsas,
     lsa: exports::ospf_lsa,
+    lls: exports::ospf_lls,
+    auth_trailer: exports::ospf_auth_trailer,
 };
 
 impl Walks {
-    /// Calls the walk that the input names, and gives its packed answer.
+    /// Calls the one that the input names, and gives its packed answer.
     pub fn run(&self, input: &Input, strip: &mut [u8]) -> u64 {
         let (version, data, offset) = (input.version, &input.data, input.offset);
         match input.walk {
             Walk::Headers => (self.headers)(version, data, offset, strip),
             Walk::Update => (self.update)(version, data, input.count, offset, strip),
             Walk::Lsa => (self.lsa)(version, data, offset, strip),
+            Walk::Lls => (self.lls)(data, offset, strip),
+            Walk::AuthTrailer => (self.auth_trailer)(data, offset, strip),
         }
     }
 }

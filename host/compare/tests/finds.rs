@@ -1,9 +1,9 @@
-//! The comparison on its own: nothing is found in the oracle's own walks,
-//! and each of several wrong walks is found.
+//! The comparison on its own: nothing is found in the oracle's own walks and
+//! readings of blocks, and each of several wrong ones is found.
 
 use compare::{Comparison, Difference, Walks, compare};
 use inputs::{CLASSES, Class, Input};
-use oracle::{Call, Outcome, Walk};
+use oracle::{Answer, Call, Outcome, Walk};
 
 const SEED: u64 = 7;
 
@@ -16,48 +16,33 @@ fn altered(call: Call<'_>, strip: &mut [u8], alter: fn(&Call<'_>, &mut [u8])) ->
     outcome.lend(strip).packed()
 }
 
-/// Walks that run `$run`, a function of a call and a buffer.
+/// A call of these parts.
+fn call(version: u8, walk: Walk, data: &[u8], count: u32, offset: u64) -> Call<'_> {
+    Call {
+        version,
+        walk,
+        data,
+        count,
+        offset,
+    }
+}
+
+/// Walks and readings that run `$run`, a function of a call and a buffer.
 macro_rules! walks {
     ($run:expr) => {
         Walks {
             headers: |version, data, offset, strip| {
-                let (walk, count) = (Walk::Headers, 0);
-                $run(
-                    Call {
-                        version,
-                        walk,
-                        data,
-                        count,
-                        offset,
-                    },
-                    strip,
-                )
+                $run(call(version, Walk::Headers, data, 0, offset), strip)
             },
             update: |version, data, count, offset, strip| {
-                let walk = Walk::Update;
-                $run(
-                    Call {
-                        version,
-                        walk,
-                        data,
-                        count,
-                        offset,
-                    },
-                    strip,
-                )
+                $run(call(version, Walk::Update, data, count, offset), strip)
             },
             lsa: |version, data, offset, strip| {
-                let (walk, count) = (Walk::Lsa, 0);
-                $run(
-                    Call {
-                        version,
-                        walk,
-                        data,
-                        count,
-                        offset,
-                    },
-                    strip,
-                )
+                $run(call(version, Walk::Lsa, data, 0, offset), strip)
+            },
+            lls: |data, offset, strip| $run(call(0, Walk::Lls, data, 0, offset), strip),
+            auth_trailer: |data, offset, strip| {
+                $run(call(0, Walk::AuthTrailer, data, 0, offset), strip)
             },
         }
     };
@@ -65,7 +50,7 @@ macro_rules! walks {
 
 /// Where each entry of a strip starts.
 fn places(strip: &[u8]) -> Vec<usize> {
-    let lengths = [0, 10, 1, 11, 12, 14, 14, 26, 10];
+    let lengths = [0, 10, 1, 11, 12, 14, 14, 26, 10, 0, 18];
     let mut places = Vec::new();
     let mut at = 0;
     while at < strip.len() {
@@ -152,6 +137,106 @@ fn refusal_3_too_early(call: Call<'_>, strip: &mut [u8]) -> u64 {
     call.run().lend(strip).packed()
 }
 
+/// The length field of an LLS block in bytes.
+fn length_in_bytes(call: Call<'_>, strip: &mut [u8]) -> u64 {
+    let mut data = call.data.to_vec();
+    if let (Walk::Lls, Some([high, low])) = (call.walk, data.get_mut(2..4)) {
+        let words = u16::from_be_bytes([*high, *low]) / 4;
+        [*high, *low] = words.to_be_bytes();
+    }
+    let mut outcome = Call {
+        data: &data,
+        ..call
+    }
+    .run();
+    if let (Walk::Lls, Outcome::Accepted { strip, .. }) = (call.walk, &mut outcome) {
+        // The field itself is shown as it is.
+        strip[32..34].copy_from_slice(&call.data[2..4]);
+    }
+    outcome.lend(strip).packed()
+}
+
+/// A block of up to `more` bytes beyond the data.
+fn beyond_the_data(call: Call<'_>, strip: &mut [u8], more: usize) -> u64 {
+    let longer = [call.data, &vec![0; more]].concat();
+    let fits = call.data.len() >= 4 && longer.len() <= 65_535;
+    let data = if fits { &longer } else { call.data };
+    Call { data, ..call }.run().lend(strip).packed()
+}
+
+/// The low half of a sequence number alone.
+fn sequence_number_as_32_bits(_: &Call<'_>, strip: &mut [u8]) {
+    for at in places(strip) {
+        if strip[at..].starts_with(&[10, 147]) {
+            put(strip, at + 10, 0);
+        }
+    }
+}
+
+/// The security association read from the reserved bits before it.
+fn sa_id_at_4(call: &Call<'_>, strip: &mut [u8]) {
+    for at in places(strip) {
+        if strip[at..].starts_with(&[4, 146]) {
+            let start = call.offset as u32 + 4;
+            put(strip, at + 2, start);
+            put(strip, at + 6, start + 2);
+            strip[at + 10..at + 12].copy_from_slice(&call.data[4..6]);
+        }
+    }
+}
+
+/// A range of TLVs that is left out where it is empty.
+fn no_empty_tlvs(call: Call<'_>, strip: &mut [u8]) -> u64 {
+    let mut outcome = call.run();
+    if let Outcome::Accepted {
+        strip, block: 4, ..
+    } = &mut outcome
+    {
+        strip.drain(34..44);
+    }
+    outcome.lend(strip).packed()
+}
+
+/// An absent block with the right answer, and a byte in the buffer.
+fn absent_writes(call: Call<'_>, strip: &mut [u8]) -> u64 {
+    let outcome = call.run();
+    if let (Outcome::Absent, [first, ..]) = (&outcome, &mut *strip) {
+        *first = 0;
+    }
+    outcome.lend(strip).packed()
+}
+
+/// An absent block refused for want of room.
+fn absent_needs_room(call: Call<'_>, strip: &mut [u8]) -> u64 {
+    match call.run() {
+        Outcome::Absent if strip.len() < 45 => 0x05_0000_002D,
+        outcome => outcome.lend(strip).packed(),
+    }
+}
+
+/// Refusal 5 where there is also a 3.
+fn refusal_5_before_3(call: Call<'_>, strip: &mut [u8]) -> u64 {
+    let at_0 = Call { offset: 0, ..call }.run().answer(strip.len());
+    match at_0.number {
+        5 => at_0.packed(),
+        _ => call.run().lend(strip).packed(),
+    }
+}
+
+/// The answer without the block's length.
+fn no_block_length(call: Call<'_>, strip: &mut [u8]) -> u64 {
+    call.run().lend(strip).packed() & 0xFF_FFFF_FFFF
+}
+
+/// Refusal 5 with the block's length.
+fn block_length_with_refusal_5(call: Call<'_>, strip: &mut [u8]) -> u64 {
+    let outcome = call.run();
+    match (outcome.lend(strip), outcome.answer(usize::MAX)) {
+        (answer, Answer { block, .. }) if answer.number == 5 => Answer { block, ..answer }.packed(),
+        (answer, _) => answer.packed(),
+    }
+}
+
 /// Looks for a difference in one class.
 fn find(walks: Walks, class: Class) -> Difference {
     *compare(walks, &[class], SEED, 20).expect_err("the difference")
@@ -223,6 +308,90 @@ fn finds_a_refusal_too_early() {
     let found = find(walks!(refusal_3_too_early), Class::Offset);
     assert_eq!(found.input.offset, 4_294_901_760);
     assert_eq!(found.found, 0x03_0000_0000);
+}
+
+/// The least data of a difference: the reading, and how many bytes.
+fn least(found: &Difference) -> (Walk, usize) {
+    (found.input.walk, found.input.data.len())
+}
+
+#[test]
+fn finds_a_length_in_bytes() {
+    let found = find(walks!(length_in_bytes), Class::BlockLength);
+    // A block of one word is missed.
+    assert_eq!(least(&found), (Walk::Lls, 4));
+    assert_eq!((found.expected, found.found), (0x05_0000_002D, 0));
+}
+
+#[test]
+fn finds_a_block_beyond_the_data() {
+    let one_word = walks!(|call, strip: &mut [u8]| beyond_the_data(call, strip, 4));
+    let found = find(one_word, Class::BlockLength);
+    assert_eq!(least(&found), (Walk::Lls, 4));
+    assert_eq!(found.expected, 0);
+    let one_byte = walks!(|call: Call<'_>, strip: &mut [u8]| match call.walk {
+        Walk::AuthTrailer => beyond_the_data(call, strip, 1),
+        _ => call.run().lend(strip).packed(),
+    });
+    let found = find(one_byte, Class::BlockLength);
+    // The fixed part one byte short, whose field says 16.
+    assert_eq!(least(&found), (Walk::AuthTrailer, 15));
+}
+
+#[test]
+fn finds_a_sequence_number_as_32_bits() {
+    let wrong = walks!(|call, strip: &mut [u8]| altered(call, strip, sequence_number_as_32_bits));
+    let found = find(wrong, Class::Block);
+    assert_eq!(found.input.walk, Walk::AuthTrailer);
+    // After the object and three fields, the first byte of its value.
+    let at = 10 + 3 * 12 + 10;
+    assert_eq!(found.byte.map(|(at, _, found)| (at, found)), Some((at, 0)));
+}
+
+#[test]
+fn finds_an_sa_id_at_4() {
+    let wrong = walks!(|call, strip: &mut [u8]| altered(call, strip, sa_id_at_4));
+    let found = find(wrong, Class::BlockLength);
+    assert_eq!(least(&found), (Walk::AuthTrailer, 16));
+    // The last byte of its start.
+    assert_eq!(found.byte.map(|(at, ..)| at), Some(10 + 2 * 12 + 5));
+}
+
+#[test]
+fn finds_missing_empty_tlvs() {
+    let found = find(walks!(no_empty_tlvs), Class::BlockLength);
+    assert_eq!(least(&found), (Walk::Lls, 4));
+    assert_eq!(found.found, 0x05_0000_0023);
+}
+
+#[test]
+fn finds_an_absent_block_that_writes() {
+    let found = find(walks!(absent_writes), Class::BlockLength);
+    assert_eq!((least(&found).1, found.expected, found.found), (0, 0, 0));
+    assert_eq!(found.byte.map(|(at, ..)| at), Some(0));
+}
+
+#[test]
+fn finds_an_absent_block_that_needs_room() {
+    let found = find(walks!(absent_needs_room), Class::BlockLength);
+    assert_eq!((found.room, found.expected), (0, 0));
+}
+
+#[test]
+fn finds_a_refusal_5_before_3() {
+    let found = find(walks!(refusal_5_before_3), Class::BlockLength);
+    assert!(found.input.offset > 4_294_901_760);
+    assert_eq!(found.expected, 0x03_0000_0000);
+    assert_eq!((found.room, found.found >> 32), (0, 5));
+}
+
+#[test]
+fn finds_a_missing_block_length() {
+    let found = find(walks!(no_block_length), Class::Block);
+    assert_eq!(found.byte, None);
+    assert_eq!(found.expected as u32, found.found as u32);
+    let found = find(walks!(block_length_with_refusal_5), Class::Block);
+    assert_eq!(found.expected >> 32, 5);
 }
 
 /// What is printed for a difference has the call and its data in hexadecimal.

@@ -25,7 +25,7 @@ type File = (
 
 const UTIL: (&str, &str) = ("packet_dissector_core::util", "crate::util");
 
-const FILES: [File; 5] = [
+const FILES: [File; 6] = [
     (
         "packet-dissector-core/src/util.rs",
         ("crate::error", "packet_dissector_core::error"),
@@ -33,6 +33,7 @@ const FILES: [File; 5] = [
             "read_be_u16",
             "read_be_u24",
             "read_be_u32",
+            "read_be_u64",
             "read_ipv4_addr",
         ],
     ),
@@ -57,6 +58,11 @@ const FILES: [File; 5] = [
     ),
     ("packet-dissector-ospf/src/v2_lsa.rs", UTIL, &[]),
     ("packet-dissector-ospf/src/v3_lsa.rs", UTIL, &[]),
+    (
+        "packet-dissector-ospf/src/trailer.rs",
+        UTIL,
+        &["push_lls", "auth_trailer_len", "push_auth_trailer"],
+    ),
 ];
 
 fn main() {

@@ -80,10 +80,9 @@ pub fn missed() -> impl Iterator<Item = &'static Point> {
 /// Replays a sample on the counting copies; whether the answer is the stored
 /// one.
 pub fn replay(sample: &Sample) -> bool {
-    let walks = [Walk::Headers, Walk::Update, Walk::Lsa];
     let call = Call {
         version: sample.version,
-        walk: walks[sample.walk as usize],
+        walk: Walk::ALL[sample.walk as usize],
         data: &sample.data,
         count: sample.count,
         offset: sample.offset,
@@ -92,6 +91,7 @@ pub fn replay(sample: &Sample) -> bool {
     let answer = call.run().lend(&mut strip);
     let stored = &sample.answer;
     let same = (answer.number, answer.length) == (stored.number, stored.length)
-        && (answer.records, answer.tail) == (stored.records, stored.tail);
+        && (answer.records, answer.tail) == (stored.records, stored.tail)
+        && answer.block == stored.block;
     same && strip.starts_with(&sample.strip)
 }

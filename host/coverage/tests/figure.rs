@@ -6,21 +6,23 @@ use std::path::Path;
 use coverage::{BRANCHES, LINES, POINTS, missed, replay};
 
 /// Statements that no call reaches: the readers' errors. Each read of these
-/// widths stands behind a length test. (`read_ipv4_addr` is reached: a network
-/// mask is read before its length is known.)
+/// widths stands behind a length test. (`read_be_u16` and `read_ipv4_addr` are
+/// reached: an LLS block's length and a network mask are read before that of
+/// the data is known.)
 const NO_STATEMENT: [(&str, &str); 3] = [
-    ("util", "read_be_u16"),
     ("util", "read_be_u24"),
     ("util", "read_be_u32"),
+    ("util", "read_be_u64"),
 ];
 
 /// Ways out that no call takes: the index of an opened container is always
-/// valid, and a length test has come before each of the three reads.
-const NO_WAY_OUT: [(&str, &str, &str); 4] = [
+/// valid, and a length test has come before each of the four reads.
+const NO_WAY_OUT: [(&str, &str, &str); 5] = [
     ("tlv", "set_range_end", "if"),
     ("v2_lsa", "push_summary_lsa", "?"),
     ("v2_lsa", "push_external_lsa", "?"),
     ("v3_lsa", "push_external_lsa", "?"),
+    ("trailer", "auth_trailer_len", "?"),
 ];
 
 #[test]
@@ -47,6 +49,6 @@ fn all_but_the_unreachable_is_reached() {
 
     // Each error is a `return` of one statement over three lines of code.
     let unreached = LINES.iter().filter(|line| !line.reached()).count();
-    assert_eq!((LINES.len(), unreached), (561, 9));
-    assert_eq!((POINTS.len(), BRANCHES.len()), (336, 36));
+    assert_eq!((LINES.len(), unreached), (624, 9));
+    assert_eq!((POINTS.len(), BRANCHES.len()), (362, 40));
 }

@@ -1,8 +1,10 @@
-//! Inputs for the three walks: seeded, deterministic, and each of a class.
+//! Inputs for the three walks and the two readings of a block: seeded,
+//! deterministic, and each of a class.
 //!
 //! [`each`] hands them out one by one, so that millions need no memory. The
 //! same seed and rounds give the same inputs on every machine.
 
+mod blocks;
 mod edges;
 mod lsa;
 mod random;
@@ -11,6 +13,7 @@ mod sweeps;
 
 use std::collections::BTreeMap;
 
+pub use blocks::with_length_field;
 pub use lsa::{V2_TYPES, V3_FUNCTIONS, lsa, structured, update};
 use oracle::{Call, Walk};
 pub use rng::Rng;
@@ -49,12 +52,16 @@ pub enum Class {
     Damaged,
     /// Bytes without a plan.
     Random,
+    /// Blocks alone, before other bytes, cut and damaged.
+    Block,
+    /// Every length field of a block, and each around the data's length.
+    BlockLength,
     /// Taken from captures; not made here.
     Captured,
 }
 
 /// The classes made here, in the order in which [`each`] hands them out.
-pub const CLASSES: [Class; 14] = [
+pub const CLASSES: [Class; 16] = [
     Class::Short,
     Class::Type,
     Class::Tos,
@@ -69,9 +76,11 @@ pub const CLASSES: [Class; 14] = [
     Class::Truncated,
     Class::Damaged,
     Class::Random,
+    Class::Block,
+    Class::BlockLength,
 ];
 
-/// One call of a walk, with its own data.
+/// One call, with its own data.
 #[derive(Clone, Debug, PartialEq, Eq)]
 pub struct Input {
     pub class: Class,
@@ -83,7 +92,7 @@ pub struct Input {
 }
 
 impl Input {
-    /// The call for a walk.
+    /// The call on these data.
     pub fn call(&self) -> Call<'_> {
         Call {
             version: self.version,
@@ -118,6 +127,8 @@ pub fn of_class(class: Class, seed: u64, rounds: u32, take: &mut Take<'_>) {
         Class::Truncated => random::truncated(rng, rounds, take),
         Class::Damaged => random::damaged(rng, rounds, take),
         Class::Random => random::random(rng, rounds, take),
+        Class::Block => blocks::block(rng, rounds, take),
+        Class::BlockLength => blocks::block_length(rng, take),
         Class::Captured => {}
     }
 }

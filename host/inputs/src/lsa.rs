@@ -180,7 +180,7 @@ fn prefix_length(rng: &mut Rng) -> u8 {
 }
 
 /// `n` TLVs, now and then one that is cut.
-fn tlvs(rng: &mut Rng, n: usize) -> Vec<u8> {
+pub fn tlvs(rng: &mut Rng, n: usize) -> Vec<u8> {
     let mut all = Vec::new();
     for _ in 0..n {
         let length = rng.below(20);

@@ -80,7 +80,8 @@ pub fn damaged(rng: &mut Rng, rounds: u32, take: &mut Take<'_>) {
     }
 }
 
-fn damage(rng: &mut Rng, data: &mut Vec<u8>) {
+/// One byte changed, removed or added.
+pub fn damage(rng: &mut Rng, data: &mut Vec<u8>) {
     if data.is_empty() {
         data.push(rng.byte());
         return;

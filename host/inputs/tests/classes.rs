@@ -37,6 +37,8 @@ fn counts_by_class() {
         (Class::Truncated, 66_395),
         (Class::Damaged, 30_000),
         (Class::Random, 40_000),
+        (Class::Block, 18_000),
+        (Class::BlockLength, 147_298),
     ];
     assert_eq!(counts(1, 1_000), expected.into_iter().collect());
 }
@@ -152,8 +154,96 @@ fn truncations_and_refusals() {
         .iter()
         .filter_map(|input| match input.call().run() {
             Outcome::Refused(number) => Some(number),
-            Outcome::Accepted { .. } => None,
+            Outcome::Absent | Outcome::Accepted { .. } => None,
         })
         .collect();
     assert_eq!(numbers, BTreeSet::from([1, 2, 3, 4]));
+}
+
+const READINGS: [Walk; 2] = [Walk::Lls, Walk::AuthTrailer];
+
+/// The inputs of a class that read this block.
+fn readings(class: Class, walk: Walk) -> Vec<Input> {
+    let mut inputs = all(class, 1);
+    inputs.retain(|input| input.walk == walk);
+    inputs
+}
+
+/// Every length field, every length of data up to 40 with every field up to
+/// 48, and blocks that fill longer data or are one unit longer.
+#[test]
+fn every_length_of_a_block() {
+    for walk in READINGS {
+        let inputs = readings(Class::BlockLength, walk);
+        let fields = |length: usize| -> BTreeSet<u16> {
+            let of_length = inputs.iter().filter(|i| i.data.len() == length);
+            let field = of_length.map(|i| u16::from_be_bytes([i.data[2], i.data[3]]));
+            field.collect()
+        };
+        assert_eq!(fields(40).len(), 65_536, "{walk:?}");
+        for length in 0..4 {
+            let of_length = inputs.iter().filter(|i| i.data.len() == length);
+            assert!(of_length.count() >= 49, "{walk:?} {length}");
+        }
+        for length in 4..=40 {
+            assert!((0..=48).all(|field| fields(length).contains(&field)));
+        }
+        let unit = if walk == Walk::Lls { 4 } else { 1 };
+        for length in (41..=400).chain([65_534, 65_535, 65_536]) {
+            let full: usize = length / unit;
+            let most = (full + 1).min(usize::from(u16::MAX));
+            let (found, mut around) = (fields(length), full - 1..=most);
+            assert!(
+                around.all(|field| found.contains(&(field as u16))),
+                "{length}"
+            );
+        }
+    }
+}
+
+/// How many inputs come to refusal 2, to 3, to absent, and to a block.
+fn outcomes(inputs: &[Input]) -> [usize; 4] {
+    let mut seen = [0; 4];
+    for input in inputs {
+        let place = match input.call().run() {
+            Outcome::Refused(number) => number as usize - 2,
+            Outcome::Absent => 2,
+            Outcome::Accepted { .. } => 3,
+        };
+        seen[place] += 1;
+    }
+    seen
+}
+
+#[test]
+fn outcomes_and_offsets_of_blocks() {
+    for walk in READINGS {
+        let lengths = readings(Class::BlockLength, walk);
+        let seen = outcomes(&lengths);
+        assert!(seen.iter().all(|&n| n > 60), "{walk:?} {seen:?}");
+        for found in [false, true] {
+            let of = |i: &&Input| matches!(i.call().run(), Outcome::Accepted { .. }) == found;
+            let offsets: BTreeSet<u64> = lengths.iter().filter(of).map(|i| i.offset).collect();
+            let beyond = [MOST_OFFSET + 1, u64::MAX];
+            assert!([0, 1, MOST_OFFSET].iter().all(|o| offsets.contains(o)));
+            assert!(beyond.iter().all(|o| offsets.contains(o) != found));
+        }
+        let [_, _, absent, found] = outcomes(&readings(Class::Block, walk));
+        assert!(absent > 3 && found > 9, "{walk:?} {absent} {found}");
+    }
+}
+
+/// Blocks that end with the data, and blocks before other bytes.
+#[test]
+fn bytes_after_a_block() {
+    for walk in READINGS {
+        let blocks = readings(Class::Block, walk)
+            .into_iter()
+            .filter_map(|input| match input.call().run() {
+                Outcome::Accepted { block, .. } => Some(input.data.len() > block as usize),
+                _ => None,
+            });
+        let (followed, alone): (Vec<bool>, Vec<bool>) = blocks.partition(|&after| after);
+        assert!(followed.len() > 3 && alone.len() > 2, "{walk:?}");
+    }
 }

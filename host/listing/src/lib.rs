@@ -6,19 +6,29 @@
 //! ```
 //! assert_eq!(listing::strip("open 114 0 4294901760"), listing::hex("01 72 00000000 FFFF0000"));
 //! assert_eq!(listing::strip("u16 6 16 18 4660"), listing::hex("04 06 00000010 00000012 1234"));
+//! let most = listing::strip("u64 147 8 16 18446744073709551615");
+//! assert_eq!(most, listing::hex("0A 93 00000008 00000010 FFFFFFFFFFFFFFFF"));
 //! ```
 
-/// The kinds from 1 on: the word of each, and how many bytes its body has.
-pub const KINDS: [(&str, usize); 8] = [
-    ("open", 9),
-    ("close", 0),
-    ("u8", 10),
-    ("u16", 11),
-    ("u32", 13),
-    ("ip4", 13),
-    ("ip6", 25),
-    ("bytes", 9),
+/// The kinds: the number of each, its word, and how many bytes its body has.
+pub const KINDS: [(u8, &str, usize); 9] = [
+    (1, "open", 9),
+    (2, "close", 0),
+    (3, "u8", 10),
+    (4, "u16", 11),
+    (5, "u32", 13),
+    (6, "ip4", 13),
+    (7, "ip6", 25),
+    (8, "bytes", 9),
+    (10, "u64", 17),
 ];
+
+/// The word of a kind, and how many bytes its body has; none where no kind
+/// has this number.
+pub fn kind(number: u8) -> Option<(&'static str, usize)> {
+    let row = KINDS.iter().find(|row| row.0 == number);
+    row.map(|&(_, word, body)| (word, body))
+}
 
 /// The bytes of a strip, one entry a line. Panics on a line it cannot read.
 pub fn strip(listing: &str) -> Vec<u8> {
@@ -43,10 +53,9 @@ pub fn bytes(n: usize, byte: u8) -> Vec<u8> {
 
 fn entry(line: &str) -> Vec<u8> {
     let words: Vec<&str> = line.split_whitespace().collect();
-    let kind = KINDS.iter().position(|&(word, _)| word == words[0]);
-    let kind = kind.unwrap_or_else(|| panic!("no kind is called {:?}", words[0]));
-    let (word, body) = KINDS[kind];
-    let mut out = vec![kind as u8 + 1];
+    let kind = KINDS.iter().find(|row| row.1 == words[0]);
+    let &(kind, word, body) = kind.unwrap_or_else(|| panic!("no kind is called {:?}", words[0]));
+    let mut out = vec![kind];
     if word == "close" {
         return out;
     }
@@ -66,6 +75,8 @@ fn entry(line: &str) -> Vec<u8> {
 /// A decimal number as `width` bytes, the highest first.
 fn number(word: &str, width: usize) -> Vec<u8> {
     let number: u64 = word.parse().expect("a decimal number");
-    assert!(number >> (8 * width) == 0, "{number} in {width} bytes");
+    // All 64 bits shifted out leave nothing.
+    let beyond = number.checked_shr(8 * width as u32).unwrap_or(0);
+    assert!(beyond == 0, "{number} in {width} bytes");
     number.to_be_bytes()[8 - width..].to_vec()
 }

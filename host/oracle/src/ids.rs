@@ -6,7 +6,7 @@
 
 use packet_dissector_core::field::{FieldDescriptor, FieldType};
 
-use crate::{v2_lsa, v3_lsa};
+use crate::{trailer, v2_lsa, v3_lsa};
 
 /// Ids that are not an index of a table.
 const LINK: u8 = 96;
@@ -15,52 +15,84 @@ const ATTACHED_ROUTER: u8 = 98;
 const HEADER: u8 = 112;
 const LSA: u8 = 113;
 const OUTER: u8 = 114;
+const LLS: u8 = 136;
+const AUTH_TRAILER: u8 = 152;
 
-/// First ids of the tables inside an LSA.
+/// First ids of the tables.
+const LSA_FIELDS: u8 = 0;
 const LINK_FIELDS: u8 = 64;
 const TOS_OR_PREFIX_FIELDS: u8 = 80;
+const LLS_FIELDS: u8 = 128;
+const AUTH_TRAILER_FIELDS: u8 = 144;
 
 /// The outer array of a header list or an update. The reference takes this
 /// descriptor from its caller, so it is ours here.
 pub(crate) static FD_OUTER: FieldDescriptor =
     FieldDescriptor::new("lsas", "LSAs", FieldType::Array);
 
-/// The tables of one version.
-#[derive(Clone, Copy)]
+/// The objects of the blocks. The reference takes these from its caller too,
+/// which has them in its own table.
+pub(crate) static FD_LLS: FieldDescriptor = trailer::LLS_DESCRIPTOR;
+pub(crate) static FD_AUTH_TRAILER: FieldDescriptor = trailer::AUTH_TRAILER_DESCRIPTOR;
+
+/// A table of fields, and the id of its first row.
+type Table = (&'static [FieldDescriptor], u8);
+
+/// A container that the reference gets from its caller, and its id.
+type Object = (&'static FieldDescriptor, u8);
+
+/// The tables and objects of a call.
 pub(crate) struct Ids {
-    lsa: &'static [FieldDescriptor],
-    link: &'static [FieldDescriptor],
-    tos_or_prefix: &'static [FieldDescriptor],
-    header_object: &'static FieldDescriptor,
-    lsa_object: &'static FieldDescriptor,
+    /// The table of an LSA or a block, then those of what stands inside it.
+    tables: Vec<Table>,
+    objects: Vec<Object>,
 }
 
 impl Ids {
-    /// The tables of `version`, which is 2 or 3.
+    /// The ids of a walk of `version`, which is 2 or 3.
     pub fn of(version: u8) -> Ids {
-        let (lsa, header_object, lsa_object) = match version {
+        let (lsa, header_object, lsa_object, list) = match version {
             2 => (
                 v2_lsa::LSA_CHILD_FIELDS,
                 &v2_lsa::FD_LSA_HEADER,
                 &v2_lsa::FD_LSA,
+                "tos_metrics",
             ),
             _ => (
                 v3_lsa::LSA_CHILD_FIELDS,
                 &v3_lsa::FD_LSA_HEADER,
                 &v3_lsa::FD_LSA,
+                "prefixes",
             ),
         };
-        let list = if version == 2 {
-            "tos_metrics"
-        } else {
-            "prefixes"
-        };
         Ids {
-            lsa,
-            link: children(lsa, "links"),
-            tos_or_prefix: children(lsa, list),
-            header_object,
-            lsa_object,
+            tables: vec![
+                (lsa, LSA_FIELDS),
+                (children(lsa, "links"), LINK_FIELDS),
+                (children(lsa, list), TOS_OR_PREFIX_FIELDS),
+            ],
+            objects: vec![
+                (&FD_OUTER, OUTER),
+                (header_object, HEADER),
+                (lsa_object, LSA),
+            ],
+        }
+    }
+
+    /// The ids of an LLS block, which are the same in both versions.
+    pub fn of_lls() -> Ids {
+        Ids::of_block((&FD_LLS, LLS), LLS_FIELDS)
+    }
+
+    /// The ids of an OSPFv3 authentication trailer.
+    pub fn of_auth_trailer() -> Ids {
+        Ids::of_block((&FD_AUTH_TRAILER, AUTH_TRAILER), AUTH_TRAILER_FIELDS)
+    }
+
+    fn of_block(object: Object, first: u8) -> Ids {
+        Ids {
+            tables: vec![(object.0.children, first)],
+            objects: vec![object],
         }
     }
 
@@ -80,41 +112,41 @@ impl Ids {
     }
 
     fn in_table(&self, d: &'static FieldDescriptor) -> Option<u8> {
-        let tables = [
-            (self.lsa, 0),
-            (self.link, LINK_FIELDS),
-            (self.tos_or_prefix, TOS_OR_PREFIX_FIELDS),
-        ];
-        tables.iter().find_map(|&(table, first)| {
+        self.tables.iter().find_map(|&(table, first)| {
             let index = table.iter().position(|row| std::ptr::eq(row, d))?;
             Some(first + index as u8)
         })
     }
 
     fn alone(&self, d: &'static FieldDescriptor) -> Option<u8> {
-        if std::ptr::eq(d, &FD_OUTER) {
-            return Some(OUTER);
-        }
-        if std::ptr::eq(d, self.header_object) {
-            return Some(HEADER);
-        }
-        if std::ptr::eq(d, self.lsa_object) {
-            return Some(LSA);
+        let mut objects = self.objects.iter();
+        if let Some(&(_, id)) = objects.find(|(object, _)| std::ptr::eq(*object, d)) {
+            return Some(id);
         }
         match (d.name, d.field_type) {
-            ("link", FieldType::Object) if same(d.children, self.link) => Some(LINK),
+            ("link", FieldType::Object) if self.holds(d, LINK_FIELDS) => Some(LINK),
             ("tos_metric" | "prefix_entry", FieldType::Object)
-                if same(d.children, self.tos_or_prefix) =>
+                if self.holds(d, TOS_OR_PREFIX_FIELDS) =>
             {
                 Some(TOS_OR_PREFIX)
             }
             ("attached_router", FieldType::Ipv4Addr) => Some(ATTACHED_ROUTER),
+            // What is left over in an LLS block belongs to its TLVs.
+            ("unparsed", FieldType::Bytes) if self.tables[0].1 == LLS_FIELDS => None,
             ("tlvs", FieldType::Array) | ("unparsed", FieldType::Bytes) => {
-                let row = self.lsa.iter().position(|row| row.name == d.name)?;
-                Some(row as u8)
+                let (table, first) = self.tables[0];
+                let row = table.iter().position(|row| row.name == d.name)?;
+                Some(first + row as u8)
             }
             _ => None,
         }
+    }
+
+    /// Whether the children of `d` are the table with this first id, and not
+    /// only equal to it.
+    fn holds(&self, d: &'static FieldDescriptor, first: u8) -> bool {
+        let same = |&(table, id): &Table| id == first && std::ptr::eq(table, d.children);
+        self.tables.iter().any(same)
     }
 }
 
@@ -122,11 +154,6 @@ impl Ids {
 fn children(table: &'static [FieldDescriptor], name: &str) -> &'static [FieldDescriptor] {
     let row = table.iter().find(|row| row.name == name);
     row.expect("a row of the reference").children
-}
-
-/// Whether both are the same table, and not only equal ones.
-fn same(a: &'static [FieldDescriptor], b: &'static [FieldDescriptor]) -> bool {
-    std::ptr::eq(a, b)
 }
 
 /// How the reference names a field: for programs, and for a person.

@@ -5,8 +5,8 @@ use std::panic::{AssertUnwindSafe, catch_unwind};
 
 use packet_dissector_core::packet::{DissectBuffer, Event};
 
-use crate::ids::FD_OUTER;
-use crate::{Call, Outcome, Walk, common, v2_lsa, v3_lsa};
+use crate::ids::{FD_LLS, FD_OUTER};
+use crate::{Call, Outcome, Walk, common, trailer, v2_lsa, v3_lsa};
 
 fn call(version: u8, walk: Walk, data: &[u8]) -> Call<'_> {
     Call {
@@ -159,5 +159,99 @@ fn unparsed_has_the_id_of_the_lsa_table() {
             panic!("refused");
         };
         assert_eq!(strip[11..13], [8, id as u8]);
+    }
+}
+
+/// An LLS block of two TLVs, of which the second does not fit. The reference
+/// pushes an array with the first, then `unparsed`, both inside the block.
+#[test]
+fn tlvs_of_an_lls_block_are_one_range() {
+    let mut data = [0; 20];
+    data[3] = 5;
+    data[4..8].copy_from_slice(&[0, 1, 0, 4]);
+    data[12..16].copy_from_slice(&[0, 2, 0, 5]);
+    let call = call(0, Walk::Lls, &data);
+    let record = call.record();
+    let names: Vec<&str> = record.fields()[3..].iter().map(|f| f.name()).collect();
+    let pushed = [
+        "tlvs",
+        "tlv",
+        "type",
+        "length",
+        "extended_options",
+        "unparsed",
+    ];
+    assert_eq!(names, pushed);
+    assert_eq!(record.fields()[3].range, 4..12);
+    assert_eq!(record.fields()[8].range, 12..20);
+
+    let Outcome::Accepted { strip, tail, .. } = call.run() else {
+        panic!("no block");
+    };
+    let range = [8, 130, 0, 0, 0, 4, 0, 0, 0, 20, 2];
+    assert_eq!(strip[strip.len() - 11..], range);
+    assert_eq!((strip.len(), tail), (10 + 12 + 12 + 10 + 1, 0));
+}
+
+/// The reference reads a block in data of any length at any place.
+#[test]
+fn refusals_of_a_block_stand_where_the_reference_goes_on() {
+    let mut data = vec![0; 65_536];
+    data[3] = 16;
+    let (most, above) = (4_294_901_760, 4_294_901_761);
+    for walk in [Walk::Lls, Walk::AuthTrailer] {
+        for (length, offset, number) in [(65_536, most, 2), (65_535, above, 3)] {
+            let call = Call {
+                offset,
+                ..call(0, walk, &data[..length])
+            };
+            let block = if walk == Walk::Lls { 64 } else { 16 };
+            let start = offset as usize;
+            assert_eq!(call.record().fields()[0].range, start..start + block);
+            assert_eq!(call.run(), Outcome::Refused(number));
+        }
+    }
+}
+
+/// Absent is the reference's own answer, and then it pushes nothing.
+#[test]
+fn absent_blocks_push_nothing() {
+    let mut absent = [0; 2];
+    for length in 0..=20 {
+        for field in 0..=20 {
+            let mut data = vec![0; length];
+            data.iter_mut().skip(3).take(1).for_each(|b| *b = field);
+            let mut buf = DissectBuffer::new();
+            let consumed = trailer::push_lls(&mut buf, &data, 0, &FD_LLS);
+            let answers = [
+                (Walk::Lls, consumed == 0),
+                (
+                    Walk::AuthTrailer,
+                    trailer::auth_trailer_len(&data).is_none(),
+                ),
+            ];
+            for (seen, (walk, none)) in absent.iter_mut().zip(answers) {
+                let call = call(0, walk, &data);
+                assert_eq!(call.run() == Outcome::Absent, none);
+                assert_eq!(call.record().events().is_empty(), none);
+                *seen += usize::from(none);
+            }
+        }
+    }
+    // Found are one to five words, and 16 to 20 bytes, in as many or more.
+    let lls = (4..=20).map(|length| length / 4).sum::<usize>();
+    assert_eq!(absent, [21 * 21 - lls, 21 * 21 - 15]);
+}
+
+/// The caller in `v3.rs` takes a trailer without an AT-bit only where it ends
+/// with the data, and reads on after a block; these readings do neither.
+#[test]
+fn bytes_after_a_block_are_not_looked_at() {
+    let mut data = vec![0; 40];
+    for walk in [Walk::Lls, Walk::AuthTrailer] {
+        data[3] = if walk == Walk::Lls { 5 } else { 20 };
+        let alone = call(0, walk, &data[..20]).run();
+        assert!(matches!(alone, Outcome::Accepted { block: 20, .. }));
+        assert_eq!(call(0, walk, &data).run(), alone);
     }
 }

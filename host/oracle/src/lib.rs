@@ -1,4 +1,5 @@
-//! The oracle: what the Rust reference says about the LSAs of a call.
+//! The oracle: what the Rust reference says about the LSAs or the block of a
+//! call.
 //!
 //! The files of `docs/src` are compiled as they lie there, against the
 //! stand-in `packet-dissector-core`, which records their calls. From that
@@ -14,8 +15,8 @@
 //! assert_eq!(strip, [1, 114, 0, 0, 0, 0, 0, 0, 0, 0, 2]);
 //! ```
 
-// The reference. Much of it (names, TLV contents, trailers) is not called, and
-// a formatter must not touch it.
+// The reference. Much of it (names, formats) is not called, and a formatter
+// must not touch it.
 include!(concat!(env!("OUT_DIR"), "/modules.rs"));
 
 #[allow(dead_code)]

@@ -15,6 +15,7 @@ const U32: u8 = 5;
 const IPV4: u8 = 6;
 const IPV6: u8 = 7;
 const BYTES: u8 = 8;
+const U64: u8 = 10;
 
 /// The strip of a record, and the bytes left over outside of TLVs at its
 /// outermost level.
@@ -24,7 +25,7 @@ pub(crate) struct Strip {
 }
 
 /// Converts the whole record of one call. `data` and `offset` are the call's.
-pub(crate) fn of_record(buf: &DissectBuffer<'_>, ids: Ids, data: &[u8], offset: usize) -> Strip {
+pub(crate) fn of_record(buf: &DissectBuffer<'_>, ids: &Ids, data: &[u8], offset: usize) -> Strip {
     let mut writer = Writer {
         ids,
         data,
@@ -52,7 +53,7 @@ pub(crate) fn of_record(buf: &DissectBuffer<'_>, ids: Ids, data: &[u8], offset: 
 }
 
 struct Writer<'a> {
-    ids: Ids,
+    ids: &'a Ids,
     data: &'a [u8],
     offset: usize,
     open: Vec<usize>,
@@ -83,6 +84,7 @@ impl Writer<'_> {
             FieldValue::U8(v) => self.entry(U8, field, &[*v]),
             FieldValue::U16(v) => self.entry(U16, field, &v.to_be_bytes()),
             FieldValue::U32(v) => self.entry(U32, field, &v.to_be_bytes()),
+            FieldValue::U64(v) => self.entry(U64, field, &v.to_be_bytes()),
             FieldValue::Ipv4Addr(v) => self.entry(IPV4, field, v),
             FieldValue::Ipv6Addr(v) => self.entry(IPV6, field, v),
             FieldValue::Bytes(v) => {

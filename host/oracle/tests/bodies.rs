@@ -22,6 +22,7 @@ fn check(version: u8, ls_type: u16, body: &str, entries: &str, tail: u32) {
         strip,
         records,
         tail: found,
+        ..
     } = call.run()
     else {
         panic!("refused");

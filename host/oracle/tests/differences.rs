@@ -21,8 +21,9 @@ fn run(version: u8, walk: Walk, data: &[u8]) -> (Vec<u8>, u32, u32) {
             strip,
             records,
             tail,
+            ..
         } => (strip, records, tail),
-        Outcome::Refused(number) => panic!("refusal {number}"),
+        other => panic!("{other:?}"),
     }
 }
 
@@ -282,4 +283,78 @@ fn widths_that_are_not_the_fields() {
     let lsa = "0001 2009 00000000 0A000001 80000001 0000 0020 0000 2001 00000000 0A000001";
     let (strip, ..) = run(3, Walk::Lsa, &hex(lsa));
     assert!(has(&strip, "u32 28 20 22 0"));
+}
+
+/// The entries of a block of these bytes.
+fn block(walk: Walk, data: &str) -> Vec<u8> {
+    run(3, walk, &hex(data)).0
+}
+
+#[test]
+fn checksum_of_an_lls_block_is_not_tested() {
+    // The standard IP checksum of the block is FFF6.
+    for checksum in ["FFF6", "1234", "0000"] {
+        let found = block(Walk::Lls, &format!("{checksum} 0003 0001 0004 00000001"));
+        let number = u16::from_str_radix(checksum, 16).expect("four digits");
+        assert!(has(&found, &format!("u16 128 0 2 {number}")));
+        assert!(has(&found, "bytes 130 4 12"));
+    }
+}
+
+#[test]
+fn tlvs_of_an_lls_block_are_not_tested() {
+    // The authentication TLV first, and twice; a TLV that does not fit; none.
+    let twice = "0002 0004 00000001";
+    for tlvs in [&format!("{twice} {twice}"), "0001 FFFF", ""] {
+        let end = 4 + hex(tlvs).len();
+        let found = block(Walk::Lls, &format!("0000 {:04X} {tlvs}", end / 4));
+        assert!(has(&found, &format!("bytes 130 4 {end}")), "{tlvs}");
+    }
+}
+
+#[test]
+fn authentication_type_is_not_tested() {
+    for auth_type in [0, 1, 2, 65_535] {
+        let data = format!("{auth_type:04X} 0010 0000 0064 0000000000000001");
+        let found = block(Walk::AuthTrailer, &data);
+        assert!(has(&found, &format!("u16 144 0 2 {auth_type}")));
+    }
+}
+
+#[test]
+fn digest_and_sequence_number_are_not_tested() {
+    for digest in [0, 1, 19, 20, 21, 65] {
+        let end = 16 + digest;
+        let data = format!("0001 {end:04X} 0000 0064 0000000000000000");
+        let found = block(Walk::AuthTrailer, &(data + &"00".repeat(digest)));
+        assert!(has(&found, &format!("bytes 148 16 {end}")));
+        assert!(has(&found, "u64 147 8 16 0"));
+    }
+}
+
+#[test]
+fn reserved_bits_of_a_trailer_are_not_shown() {
+    let trailer = |reserved| format!("0001 0010 {reserved} 0064 0000000000000001");
+    let zeros = block(Walk::AuthTrailer, &trailer("0000"));
+    assert_eq!(block(Walk::AuthTrailer, &trailer("EEEE")), zeros);
+}
+
+#[test]
+fn block_with_a_wrong_length_is_absent() {
+    let absent = [
+        (Walk::Lls, "0000 0000"),
+        (Walk::Lls, "FFF6 0004 0001 0004 00000001"),
+        (Walk::AuthTrailer, "0001 000F 0000 0064 0000000000000001"),
+        (Walk::AuthTrailer, "0001 0011 0000 0064 0000000000000001"),
+    ];
+    for (walk, data) in absent {
+        let call = Call {
+            version: 3,
+            walk,
+            data: &hex(data),
+            count: 0,
+            offset: 0,
+        };
+        assert_eq!(call.run(), Outcome::Absent, "{data}");
+    }
 }

@@ -176,8 +176,8 @@ fn bytes(words: &[String]) -> Vec<u8> {
 
 /// The definitions' name of a kind, and the widths of the numbers in its body. An
 /// IPv6 address is two numbers.
-fn kind_of(kind: usize) -> (&'static str, Vec<usize>) {
-    let (word, body) = listing::KINDS[kind];
+fn kind_of(kind: u8) -> (&'static str, Vec<usize>) {
+    let (word, body) = listing::kind(kind).expect("a kind");
     let widths = match body {
         0 => vec![],
         9 => vec![1, 4, 4],
@@ -197,9 +197,10 @@ fn strip(entries: &[String]) -> Vec<u8> {
     let mut strip = Vec::new();
     let mut rest = entries.iter();
     while let Some(word) = rest.next() {
-        let kind = (0..listing::KINDS.len()).find(|&kind| kind_of(kind).0 == word);
+        let mut kinds = listing::KINDS.iter().map(|row| row.0);
+        let kind = kinds.find(|&kind| kind_of(kind).0 == word);
         let kind = kind.unwrap_or_else(|| panic!("no kind: {word}"));
-        strip.push(kind as u8 + 1);
+        strip.push(kind);
         for width in kind_of(kind).1 {
             let value = number(rest.next().expect("a value"));
             strip.extend(&value.to_be_bytes()[8 - width..]);
@@ -213,7 +214,7 @@ fn written(strip: &[u8]) -> String {
     let mut out = String::new();
     let mut at = 0;
     while at < strip.len() {
-        let (name, widths) = kind_of(strip[at] as usize - 1);
+        let (name, widths) = kind_of(strip[at]);
         at += 1;
         out += name;
         for (i, width) in widths.into_iter().enumerate() {
@@ -257,6 +258,7 @@ fn compare(name: &str, mut statement: Vec<String>) -> (u8, Vec<u8>) {
         strip,
         records,
         tail,
+        ..
     } = call.run()
     else {
         panic!("{name} is refused");
@@ -329,6 +331,7 @@ fn listings() {
             strip,
             records,
             tail,
+            ..
         } = call.run()
         else {
             panic!("{} is refused", lines[0]);

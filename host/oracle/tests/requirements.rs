@@ -76,6 +76,7 @@ fn check(
         length: strip.len() as u32,
         records,
         tail,
+        block: 0,
     };
     let mut buffer = bytes(strip.len() + 3, 0xA5);
     assert_eq!(call.run().lend(&mut buffer), answer);
@@ -136,6 +137,7 @@ fn worked_listing_in_hexadecimal() {
         strip,
         records: 1,
         tail: 1,
+        block: 0,
     };
     assert_eq!(call.run(), expected);
 }
@@ -369,8 +371,7 @@ fn refusal_5_and_the_full_buffer() {
     let refused = Answer {
         number: 5,
         length: 21,
-        records: 0,
-        tail: 0,
+        ..Answer::default()
     };
     assert_eq!(call.run().lend(&mut short), refused);
     assert_eq!(short, bytes(20, 0xA5));

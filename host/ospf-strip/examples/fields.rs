@@ -1,21 +1,25 @@
 //! Prints the fields of an input with their names: `fields FILE`.
 //!
 //! The file holds the OSPF version (2 or 3), the walk (0 a list of LSA
-//! headers, 1 the body of a Link State Update, 2 a single LSA), and the data.
-//! Beside the LS checksum of a whole LSA stands whether it is right.
+//! headers, 1 the body of a Link State Update, 2 a single LSA) or the block
+//! (3 an LLS data block, 4 an authentication trailer; then the version is not
+//! looked at), and the data. Beside the LS checksum of a whole LSA stands
+//! whether it is right. A block that is not there prints `absent`.
 
 use std::env;
 use std::fs;
 use std::process::ExitCode;
 
-use ospf_strip::{Buffer, Entry, Kind, Refusal, Strip, Version, checksum_is_good};
+use ospf_strip::{Block, Buffer, Entry, Kind, Refusal, Strip, Version, checksum_is_good};
 
 /// The most bytes of input, as of the program `dissect`.
 const MAX_INPUT: usize = 2_050;
 
 fn main() -> ExitCode {
     let Some(path) = env::args().nth(1) else {
-        eprintln!("usage: fields FILE");
+        eprintln!(
+            "usage: fields FILE, of a version, a walk (0 to 2) or a block (3 or 4), and data"
+        );
         return ExitCode::from(2);
     };
     let input = match fs::read(&path) {
@@ -30,27 +34,42 @@ fn main() -> ExitCode {
         return ExitCode::FAILURE;
     }
     match run(&mut Buffer::new(), &input) {
-        Ok(strip) => print(strip, &input),
+        Ok(Some(strip)) => print(strip, &input),
+        Ok(None) => println!("absent"),
         // The length needed is 0: the buffer grows to what a walk needs.
         Err(number) => println!("refused {number} 0"),
     }
     ExitCode::SUCCESS
 }
 
-/// The strip of an input, or the number of its refusal, as the program
-/// `dissect` gives them.
-fn run<'a>(buffer: &'a mut Buffer, input: &[u8]) -> Result<Strip<'a>, u8> {
+/// The strip of an input, none of a block that is absent, or the number of its
+/// refusal; of the walks as the program `dissect` gives them.
+fn run<'a>(buffer: &'a mut Buffer, input: &[u8]) -> Result<Option<Strip<'a>>, u8> {
     if input.len() > MAX_INPUT {
         return Err(2);
     }
     let [version, walk, data @ ..] = input else {
         return Err(4);
     };
-    if *walk > 2 {
-        return Err(12);
-    }
-    let version = Version::try_from(*version).map_err(Refusal::number)?;
+    let strip_of = |block: Option<Block<'a>>| block.map(|block| block.strip());
     let strip = match walk {
+        0..=2 => walked(buffer, *version, *walk, data).map(Some),
+        3 => buffer.lls(data, 0).map(strip_of),
+        4 => buffer.auth_trailer(data, 0).map(strip_of),
+        _ => return Err(12),
+    };
+    strip.map_err(Refusal::number)
+}
+
+/// The strip of a walk.
+fn walked<'a>(
+    buffer: &'a mut Buffer,
+    version: u8,
+    walk: u8,
+    data: &[u8],
+) -> Result<Strip<'a>, Refusal> {
+    let version = Version::try_from(version)?;
+    match walk {
         0 => buffer.lsa_headers(version, data, 0),
         1 => {
             // An update's body begins with its number of LSAs.
@@ -58,8 +77,7 @@ fn run<'a>(buffer: &'a mut Buffer, input: &[u8]) -> Result<Strip<'a>, u8> {
             buffer.lsu_lsas(version, data, count, 0)
         }
         _ => buffer.lsa(version, data, 0),
-    };
-    strip.map_err(Refusal::number)
+    }
 }
 
 /// A line an entry: name, byte range, value; indented by its containers.

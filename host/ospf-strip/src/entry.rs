@@ -29,6 +29,8 @@ pub enum Kind {
     Ipv6 = 7,
     /// Bytes of the packet, by their range alone.
     Bytes = 8,
+    /// A field with a value of 64 bits.
+    U64 = 10,
 }
 
 /// The value of a field that has one.
@@ -40,16 +42,15 @@ pub enum Value {
     U32(u32),
     Ipv4(Ipv4Addr),
     Ipv6(Ipv6Addr),
+    U64(u64),
 }
 
 impl fmt::Display for Value {
     fn fmt(&self, f: &mut fmt::Formatter<'_>) -> fmt::Result {
-        match self {
-            Value::U8(v) => v.fmt(f),
-            Value::U16(v) => v.fmt(f),
-            Value::U32(v) => v.fmt(f),
+        match *self {
             Value::Ipv4(v) => v.fmt(f),
             Value::Ipv6(v) => v.fmt(f),
+            number => u128::from(number).fmt(f),
         }
     }
 }
@@ -64,6 +65,7 @@ impl From<Value> for u128 {
             Value::U32(v) => v.into(),
             Value::Ipv4(v) => v.to_bits().into(),
             Value::Ipv6(v) => v.to_bits(),
+            Value::U64(v) => v.into(),
         }
     }
 }
@@ -71,8 +73,8 @@ impl From<Value> for u128 {
 /// Where an entry's value begins: after kind, id, start and end.
 const HEAD: usize = 10;
 
-/// How much of a strip `fold` looks at: as much as six entries have, none of
-/// them an IPv6 address, and so more than any of its rows.
+/// How much of a strip `fold` looks at: as much as six entries have whose
+/// values are of 32 bits, and so more than any of its rows.
 const WINDOW: usize = 6 * (HEAD + 4);
 
 /// An entry's bytes, from its kind on. The kind fixes how many there are, so
@@ -87,6 +89,7 @@ enum View<'a> {
     Ipv4(&'a [u8; HEAD + 4]),
     Ipv6(&'a [u8; HEAD + 16]),
     Bytes(&'a [u8; HEAD]),
+    U64(&'a [u8; HEAD + 8]),
 }
 
 impl<'a> View<'a> {
@@ -106,6 +109,7 @@ impl<'a> View<'a> {
             6 => split(bytes, View::Ipv4),
             7 => split(bytes, View::Ipv6),
             8 => split(bytes, View::Bytes),
+            10 => split(bytes, View::U64),
             _ => None,
         }
     }
@@ -133,57 +137,64 @@ impl<'a> Entry<'a> {
     #[inline]
     #[must_use]
     pub fn kind(&self) -> Kind {
-        match self.view {
-            View::Open(_) => Kind::Open,
-            View::Close => Kind::Close,
-            View::U8(_) => Kind::U8,
-            View::U16(_) => Kind::U16,
-            View::U32(_) => Kind::U32,
-            View::Ipv4(_) => Kind::Ipv4,
-            View::Ipv6(_) => Kind::Ipv6,
-            View::Bytes(_) => Kind::Bytes,
-        }
-    }
-
-    /// Kind, id, start and end; a close has none.
-    #[inline]
-    fn head(&self) -> Option<&'a [u8; HEAD]> {
-        match self.view {
-            View::Open(bytes) | View::Bytes(bytes) => Some(bytes),
-            View::Close => None,
-            View::U8(bytes) => bytes.first_chunk(),
-            View::U16(bytes) => bytes.first_chunk(),
-            View::U32(bytes) | View::Ipv4(bytes) => bytes.first_chunk(),
-            View::Ipv6(bytes) => bytes.first_chunk(),
-        }
+        let (kind, _, _) = self.read();
+        kind
     }
 
     /// The field's id; a close has none.
     #[inline]
     #[must_use]
     pub fn id(&self) -> Option<u8> {
-        self.head().map(|head| head[1])
+        let (_, head, _) = self.read();
+        head.map(|head| head[1])
     }
 
     /// The field's place in the packet; a close has none.
     #[inline]
     #[must_use]
     pub fn range(&self) -> Option<Range<u32>> {
-        let [_, _, a, b, c, d, e, f, g, h] = *self.head()?;
+        let (_, head, _) = self.read();
+        let [_, _, a, b, c, d, e, f, g, h] = *head?;
         Some(u32::from_be_bytes([a, b, c, d])..u32::from_be_bytes([e, f, g, h]))
     }
 
-    /// The value; only kinds 3 to 7 have one.
+    /// The value, of a kind that has one.
     #[inline]
     #[must_use]
     pub fn value(&self) -> Option<Value> {
+        let (_, _, value) = self.read();
+        value
+    }
+
+    /// All that an entry says: its kind; kind, id, start and end as bytes; and
+    /// its value. Inlined, so that whoever takes one of them reads no other.
+    #[inline(always)]
+    fn read(&self) -> (Kind, Option<&'a [u8; HEAD]>, Option<Value>) {
         match self.view {
-            View::Open(_) | View::Close | View::Bytes(_) => None,
-            View::U8(bytes) => Some(Value::U8(bytes[HEAD])),
-            View::U16(bytes) => Some(Value::U16(u16::from_be_bytes(*last(bytes)))),
-            View::U32(bytes) => Some(Value::U32(u32::from_be_bytes(*last(bytes)))),
-            View::Ipv4(bytes) => Some(Value::Ipv4(Ipv4Addr::from(*last(bytes)))),
-            View::Ipv6(bytes) => Some(Value::Ipv6(Ipv6Addr::from(*last::<16>(bytes)))),
+            View::Open(head) => (Kind::Open, Some(head), None),
+            View::Close => (Kind::Close, None, None),
+            View::U8(b) => (Kind::U8, b.first_chunk(), Some(Value::U8(b[HEAD]))),
+            View::U16(b) => {
+                let value = u16::from_be_bytes(*last(b));
+                (Kind::U16, b.first_chunk(), Some(Value::U16(value)))
+            }
+            View::U32(b) => {
+                let value = u32::from_be_bytes(*last(b));
+                (Kind::U32, b.first_chunk(), Some(Value::U32(value)))
+            }
+            View::Ipv4(b) => {
+                let value = Ipv4Addr::from(*last(b));
+                (Kind::Ipv4, b.first_chunk(), Some(Value::Ipv4(value)))
+            }
+            View::Ipv6(b) => {
+                let value = Ipv6Addr::from(*last::<16>(b));
+                (Kind::Ipv6, b.first_chunk(), Some(Value::Ipv6(value)))
+            }
+            View::Bytes(head) => (Kind::Bytes, Some(head), None),
+            View::U64(b) => {
+                let value = u64::from_be_bytes(*last(b));
+                (Kind::U64, b.first_chunk(), Some(Value::U64(value)))
+            }
         }
     }
 }
@@ -317,8 +328,10 @@ impl<'a> Iterator for Entries<'a> {
                     row!(window.as_slice(), $($row)*)
                 }};
             }
-            // The kinds are 1 to 8, of which 8 has the low bits 0.
-            match kind & 7 {
+            // Four bits tell the kinds apart. All sixteen values stand here,
+            // 8 as the one that is left: so the compiler makes no test before
+            // the jump.
+            match kind & 15 {
                 1 => rows!(Open {
                     U16 { U16 { U32 {} } U8 { U8 {} } }
                     U8 { U32 { Close {} } U16 { U32 { U32 {} } } U8 {} }
@@ -334,6 +347,9 @@ impl<'a> Iterator for Entries<'a> {
                     Close {}
                 }),
                 7 => rows!(Ipv6 { Close {} }),
+                10 => rows!(U64 {}),
+                // None of them is a kind, and no strip has one.
+                0 | 9 | 11 | 12 | 13 | 14 | 15 => return folded,
                 _ => rows!(Bytes {}),
             }
         }
@@ -347,3 +363,28 @@ impl<'a> Iterator for Entries<'a> {
 
 // A step that gives nothing leaves the rest as it is.
 impl FusedIterator for Entries<'_> {}
+
+#[cfg(test)]
+mod tests {
+    use super::*;
+
+    fn entries(bytes: &[u8]) -> Entries<'_> {
+        Entries::of(Version::V2, bytes)
+    }
+
+    /// What is no kind ends `next` and `fold`, near the end and far from it.
+    /// No strip has such a byte, so this takes the entries by themselves.
+    #[test]
+    fn no_kind_ends() {
+        for kind in 0..=u8::MAX {
+            let known = matches!(kind, 1..=8 | 10);
+            for length in [1, 10, WINDOW - 1, WINDOW, 4 * WINDOW] {
+                let bytes = vec![kind; length];
+                let folded = entries(&bytes).fold(0, |count, _| count + 1);
+                assert!(folded <= length, "{kind}");
+                assert!(known || entries(&bytes).next().is_none(), "{kind}");
+                assert!(known || kind > 15 || folded == 0, "{kind}");
+            }
+        }
+    }
+}

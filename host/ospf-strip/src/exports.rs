@@ -2,8 +2,9 @@
 //! for pointers, and nothing else.
 //!
 //! Each answers one number of 64 bits: the result in the low 32, the number
-//! of a refusal, or 0, in the next 8, the rest zero. include/ospf.h says what
-//! each result is. Nothing here is refused by a panic.
+//! of a refusal, or 0, in the next 8, and in the upper 24 the length of a
+//! block that was found, else 0. include/ospf.h says what each result is.
+//! Nothing here is refused by a panic. Inlined, a call goes to the library at once.
 
 /// The exports of `libospf.a`, as include/ospf.h declares them: a slice goes
 /// over as a pointer and a length.
@@ -41,6 +42,20 @@ mod library {
             strip: *mut u8,
             strip_len: usize,
         ) -> u64;
+        pub unsafe fn ospf_lls(
+            data: *const u8,
+            data_len: usize,
+            offset: u64,
+            strip: *mut u8,
+            strip_len: usize,
+        ) -> u64;
+        pub unsafe fn ospf_auth_trailer(
+            data: *const u8,
+            data_len: usize,
+            offset: u64,
+            strip: *mut u8,
+            strip_len: usize,
+        ) -> u64;
         pub unsafe fn ospf_newness(
             version: u8,
             first: *const u8,
@@ -63,12 +78,22 @@ mod library {
 }
 
 /// The number of a refusal, or 0, and the result of an answer.
+#[inline]
 #[must_use]
 pub fn unpack(answer: u64) -> (u8, u32) {
     ((answer >> 32) as u8, answer as u32)
 }
 
+/// The length of the block that `ospf_lls` or `ospf_auth_trailer` found, from
+/// its answer; 0 where it found none.
+#[inline]
+#[must_use]
+pub fn block_length(answer: u64) -> u32 {
+    (answer >> 40) as u32
+}
+
 /// Walks a list of LSA headers.
+#[inline]
 #[must_use]
 pub fn ospf_lsa_headers(version: u8, data: &[u8], offset: u64, strip: &mut [u8]) -> u64 {
     let (from, to) = (data.as_ptr(), strip.as_mut_ptr());
@@ -81,6 +106,7 @@ pub fn ospf_lsa_headers(version: u8, data: &[u8], offset: u64, strip: &mut [u8])
 }
 
 /// Walks the body of a Link State Update, for at most `count` LSAs.
+#[inline]
 #[must_use]
 pub fn ospf_lsu_lsas(version: u8, data: &[u8], count: u32, offset: u64, strip: &mut [u8]) -> u64 {
     let (from, to) = (data.as_ptr(), strip.as_mut_ptr());
@@ -89,6 +115,7 @@ pub fn ospf_lsu_lsas(version: u8, data: &[u8], count: u32, offset: u64, strip: &
 }
 
 /// Walks a single LSA.
+#[inline]
 #[must_use]
 pub fn ospf_lsa(version: u8, data: &[u8], offset: u64, strip: &mut [u8]) -> u64 {
     let (from, to) = (data.as_ptr(), strip.as_mut_ptr());
@@ -96,7 +123,27 @@ pub fn ospf_lsa(version: u8, data: &[u8], offset: u64, strip: &mut [u8]) -> u64 
     unsafe { library::ospf_lsa(version, from, data.len(), offset, to, strip.len()) }
 }
 
+/// Reads the LLS data block at the front of `data`, if one is there.
+#[inline]
+#[must_use]
+pub fn ospf_lls(data: &[u8], offset: u64, strip: &mut [u8]) -> u64 {
+    let (from, to) = (data.as_ptr(), strip.as_mut_ptr());
+    // SAFETY: as in `ospf_lsa_headers`.
+    unsafe { library::ospf_lls(from, data.len(), offset, to, strip.len()) }
+}
+
+/// Reads the OSPFv3 authentication trailer at the front of `data`, if one is
+/// there.
+#[inline]
+#[must_use]
+pub fn ospf_auth_trailer(data: &[u8], offset: u64, strip: &mut [u8]) -> u64 {
+    let (from, to) = (data.as_ptr(), strip.as_mut_ptr());
+    // SAFETY: as in `ospf_lsa_headers`.
+    unsafe { library::ospf_auth_trailer(from, data.len(), offset, to, strip.len()) }
+}
+
 /// Which of two LSAs is newer.
+#[inline]
 #[must_use]
 pub fn ospf_newness(version: u8, first: &[u8], second: &[u8]) -> u64 {
     let (a, b) = (first.as_ptr(), second.as_ptr());
@@ -108,6 +155,7 @@ pub fn ospf_newness(version: u8, first: &[u8], second: &[u8]) -> u64 {
 }
 
 /// Whether two prefixes are the same.
+#[inline]
 #[must_use]
 pub fn ospf_prefix_compare(
     first_length: u8,
@@ -122,6 +170,7 @@ pub fn ospf_prefix_compare(
 }
 
 /// The step of the strip reader: how long the entry at a place is.
+#[inline]
 #[must_use]
 pub fn ospf_strip_step(strip: &[u8], place: usize) -> u64 {
     // SAFETY: as in `ospf_newness`, of one slice. The place may be any number.
@@ -129,6 +178,7 @@ pub fn ospf_strip_step(strip: &[u8], place: usize) -> u64 {
 }
 
 /// Whether the LS checksum of an LSA is right.
+#[inline]
 #[must_use]
 pub fn ospf_lsa_checksum_check(lsa: &[u8]) -> u64 {
     // SAFETY: as in `ospf_newness`, of one slice.
@@ -136,6 +186,7 @@ pub fn ospf_lsa_checksum_check(lsa: &[u8]) -> u64 {
 }
 
 /// Makes the LS checksum of an LSA.
+#[inline]
 #[must_use]
 pub fn ospf_lsa_checksum_make(lsa: &mut [u8]) -> u64 {
     // SAFETY: the pointer is that of a reference to a slice of this length,

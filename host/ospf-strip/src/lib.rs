@@ -5,7 +5,9 @@
 //! or over a single LSA. The walk gives back a [`Strip`], whose entries say
 //! for each field its kind, its id, its place in the packet and its value.
 //! [`lsa_headers`], [`lsu_lsas`] and [`lsa`] write into bytes of the caller's.
-//! Beside the walks, [`newness`] and [`same_prefix`] compare two LSAs and two
+//! In the same way [`lls`] and [`auth_trailer`] read the blocks that may follow
+//! a packet: an LLS data block, and the authentication trailer of OSPFv3.
+//! Beside these, [`newness`] and [`same_prefix`] compare two LSAs and two
 //! prefixes, and [`checksum_is_good`] and [`make_checksum`] check the checksum
 //! of an LSA and make it.
 //!
@@ -40,6 +42,7 @@
 //! takes up to 786,200 bytes of stack (docs/BENCHMARKS.md), which the threads
 //! of the standard library have.
 
+mod blocks;
 mod checksum;
 mod comparisons;
 mod entry;
@@ -50,6 +53,7 @@ mod strip;
 mod version;
 mod walks;
 
+pub use blocks::{Block, auth_trailer, lls};
 pub use checksum::{checksum_is_good, make_checksum};
 pub use comparisons::{Newness, newness, same_prefix};
 pub use entry::{Entries, Entry, Kind, Value};

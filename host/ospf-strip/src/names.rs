@@ -1,7 +1,7 @@
 //! The reference's names of fields, by version and id.
 //!
-//! Copied from the tables of `v2_lsa.rs` and `v3_lsa.rs`; a test compares
-//! them with what the reference pushes.
+//! Copied from the tables of `v2_lsa.rs`, `v3_lsa.rs` and `trailer.rs`; a test
+//! compares them with what the reference pushes.
 
 use crate::Version::{self, V2, V3};
 
@@ -40,6 +40,10 @@ fn row(version: Version, id: u8) -> Option<Row> {
         // The reference takes the outer array from its callers, which call it
         // by this name in an update and `lsa_headers` in a header list.
         (V2 | V3, 114) => Some(("lsas", "LSAs")),
+        (V2 | V3, 128..136) => at(&LLS, 128),
+        (V2 | V3, 136) => Some(("lls", "LLS Data Block")),
+        (V2 | V3, 144..152) => at(&AUTH_TRAILER, 144),
+        (V2 | V3, 152) => Some(("auth_trailer", "Authentication Trailer")),
         _ => None,
     }
 }
@@ -149,4 +153,21 @@ static V3_PREFIX: [Row; 4] = [
     ("prefix_options", "Prefix Options"),
     ("metric", "Metric"),
     ("prefix", "Address Prefix"),
+];
+
+/// LLS data block fields. The reference's fourth, `unparsed`, is a part of
+/// `tlvs` in a strip.
+static LLS: [Row; 3] = [
+    ("checksum", "Checksum"),
+    ("lls_data_length", "LLS Data Length"),
+    ("tlvs", "TLVs"),
+];
+
+/// OSPFv3 authentication trailer fields.
+static AUTH_TRAILER: [Row; 5] = [
+    ("auth_type", "Authentication Type"),
+    ("auth_data_len", "Auth Data Len"),
+    ("sa_id", "Security Association ID"),
+    ("crypto_sequence_number", "Cryptographic Sequence Number"),
+    ("auth_data", "Authentication Data"),
 ];

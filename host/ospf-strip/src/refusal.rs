@@ -5,7 +5,8 @@ use std::fmt;
 
 use crate::exports;
 
-/// A refusal of a walk, a comparison or a checksum.
+/// A refusal of a walk, of the reading of a block, of a comparison or of a
+/// checksum.
 #[derive(Clone, Copy, Debug, PartialEq, Eq, Hash)]
 #[non_exhaustive]
 pub enum Refusal {

@@ -5,7 +5,8 @@ use crate::{DamagedStrip, Entries, Entry, Kind, Version, exports};
 /// The id of the outer array of a header list or an update.
 const OUTER: u8 = 114;
 
-/// A strip: whole entries from end to end, as a walk wrote them.
+/// A strip: whole entries from end to end, as a walk wrote them or the reading
+/// of a [`Block`](crate::Block).
 #[derive(Clone, Copy, Debug, PartialEq, Eq, Hash)]
 #[must_use]
 pub struct Strip<'a> {
@@ -14,8 +15,8 @@ pub struct Strip<'a> {
 }
 
 impl<'a> Strip<'a> {
-    /// The bytes of a walk's strip.
-    pub(crate) fn of_walk(version: Version, bytes: &'a [u8]) -> Strip<'a> {
+    /// The bytes of a strip that the library wrote.
+    pub(crate) fn of_library(version: Version, bytes: &'a [u8]) -> Strip<'a> {
         Strip { version, bytes }
     }
 
@@ -48,7 +49,9 @@ impl<'a> Strip<'a> {
         }
     }
 
-    /// The version whose fields these are.
+    /// The version whose fields these are. Those of a block have the same ids
+    /// in both; its strip is of version 3 if it is an authentication trailer's,
+    /// and of version 2 if it is an LLS data block's, whatever the packet's is.
     #[must_use]
     pub fn version(&self) -> Version {
         self.version
@@ -67,7 +70,8 @@ impl<'a> Strip<'a> {
     }
 
     /// How many records the walk accepted: the headers of a header list, the
-    /// LSAs of an update, and 1 for a single LSA. Goes through the strip.
+    /// LSAs of an update, and 1 for a single LSA, as for a block. Goes through
+    /// the strip.
     #[must_use]
     pub fn records(&self) -> usize {
         let mut entries = self.entries();
@@ -89,7 +93,8 @@ impl<'a> Strip<'a> {
     }
 
     /// How many bytes are left after the last record, or, of a single LSA,
-    /// after its last link or prefix or field. Goes through the strip.
+    /// after its last link or prefix or field; 0 for a block. Goes through the
+    /// strip.
     #[must_use]
     pub fn tail(&self) -> usize {
         let unparsed = match self.version {

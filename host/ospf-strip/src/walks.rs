@@ -2,10 +2,14 @@
 
 use crate::{Refusal, Strip, Version, exports};
 
-/// The strip of a walk that was lent these bytes.
-fn written(version: Version, strip: &mut [u8], answer: u64) -> Result<Strip<'_>, Refusal> {
+/// The strip of a call that was lent these bytes.
+pub(crate) fn written(
+    version: Version,
+    strip: &mut [u8],
+    answer: u64,
+) -> Result<Strip<'_>, Refusal> {
     let length = Refusal::unless(answer)? as usize;
-    Ok(Strip::of_walk(version, &strip[..length]))
+    Ok(Strip::of_library(version, &strip[..length]))
 }
 
 /// The headers in `data`, which starts at `offset` of the packet, written to
@@ -72,7 +76,7 @@ pub fn lsa<'s>(
     written(version, strip, answer)
 }
 
-/// A buffer for strips. It grows to what a walk needs and is used again.
+/// A buffer for strips. It grows to what a call needs and is used again.
 #[derive(Clone, Debug, Default)]
 pub struct Buffer {
     bytes: Vec<u8>,
@@ -97,9 +101,9 @@ impl Buffer {
         offset: u64,
     ) -> Result<Strip<'_>, Refusal> {
         let number = version.number();
-        self.run(version, |strip| {
-            exports::ospf_lsa_headers(number, data, offset, strip)
-        })
+        let (strip, answer) =
+            self.run(|strip| exports::ospf_lsa_headers(number, data, offset, strip));
+        written(version, strip, answer)
     }
 
     /// The LSAs of the update body `data`, at most `count` of them. The body
@@ -117,9 +121,9 @@ impl Buffer {
         offset: u64,
     ) -> Result<Strip<'_>, Refusal> {
         let number = version.number();
-        self.run(version, |strip| {
-            exports::ospf_lsu_lsas(number, data, count, offset, strip)
-        })
+        let (strip, answer) =
+            self.run(|strip| exports::ospf_lsu_lsas(number, data, count, offset, strip));
+        written(version, strip, answer)
     }
 
     /// The one LSA that is `data`, which starts at `offset` of the packet.
@@ -135,22 +139,18 @@ impl Buffer {
         offset: u64,
     ) -> Result<Strip<'_>, Refusal> {
         let number = version.number();
-        self.run(version, |strip| {
-            exports::ospf_lsa(number, data, offset, strip)
-        })
+        let (strip, answer) = self.run(|strip| exports::ospf_lsa(number, data, offset, strip));
+        written(version, strip, answer)
     }
 
-    /// Runs a walk, and once more if it says that the buffer is too short.
-    fn run(
-        &mut self,
-        version: Version,
-        walk: impl Fn(&mut [u8]) -> u64,
-    ) -> Result<Strip<'_>, Refusal> {
-        let mut answer = walk(&mut self.bytes);
+    /// Makes a call, and once more if it says that the buffer is too short:
+    /// the bytes it was lent, and its answer.
+    pub(crate) fn run(&mut self, call: impl Fn(&mut [u8]) -> u64) -> (&mut [u8], u64) {
+        let mut answer = call(&mut self.bytes);
         if let Err(Refusal::Room { needed }) = Refusal::unless(answer) {
             self.bytes.resize(needed, 0);
-            answer = walk(&mut self.bytes);
+            answer = call(&mut self.bytes);
         }
-        written(version, &mut self.bytes, answer)
+        (&mut self.bytes, answer)
     }
 }

@@ -1,4 +1,5 @@
-//! The commands `./dissect` and `./fields`: what they take as input, and that they agree on what is refused.
+//! The commands `./dissect` and `./fields`: what they take as input, that they agree on what is refused of the walks, and
+//! the blocks, which `./fields` takes alone.
 
 use std::fs;
 use std::os::unix::fs::symlink;
@@ -7,6 +8,12 @@ use std::process::{Command, Output, Stdio};
 use std::sync::Once;
 
 const COMMANDS: [&str; 2] = ["dissect", "fields"];
+
+/// What the second byte of an input may be, in the words of each command.
+const NUMBERS: [&str; 2] = [
+    "0 headers, 1 update or 2 single LSA",
+    "0 headers, 1 update, 2 single LSA, 3 LLS data block or 4 authentication trailer",
+];
 
 fn top() -> PathBuf {
     Path::new(env!("CARGO_MANIFEST_DIR")).join("../..")
@@ -53,18 +60,19 @@ fn printed(command: &str, words: &[&str], stdin: Stdio) -> String {
 
 /// Asserts that both commands end with this status, print nothing, and say this on one line of standard error.
 fn fail(words: &[&str], stdin: impl Fn() -> Stdio, status: i32, says: &str) {
-    for command in COMMANDS {
+    for (command, numbers) in COMMANDS.into_iter().zip(NUMBERS) {
         let output = run(command, words, stdin());
         assert_eq!(output.status.code(), Some(status), "{command}: {output:?}");
         assert_eq!(text(output.stdout), "");
         let line = says.replace("COMMAND", &format!("./{command}"));
+        let line = line.replace("NUMBERS", numbers);
         assert_eq!(text(output.stderr), format!("{line}\n"));
     }
 }
 
 #[test]
 fn one_file_is_asked_for() {
-    let usage = "usage: COMMAND FILE, or COMMAND - for standard input";
+    let usage = "usage: COMMAND FILE, or COMMAND - for standard input; its second byte is NUMBERS";
     fail(&[], Stdio::null, 2, usage);
     let two = ["examples/headers-v2.bin", "examples/update-v2.bin"];
     fail(&two, Stdio::null, 2, usage);
@@ -109,9 +117,9 @@ fn refusals_agree() {
     let cases = [
         (vec![2], Some(4)),
         (lsa(2, 2), None),
-        (lsa(2, 3), Some(12)),
+        (lsa(2, 5), Some(12)),
         (lsa(3, 255), Some(12)),
-        (lsa(1, 3), Some(12)),
+        (lsa(1, 5), Some(12)),
         (lsa(0, 0), Some(1)),
         (lsa(4, 2), Some(1)),
         (vec![2, 1, 0, 0, 0], Some(4)),
@@ -132,6 +140,61 @@ fn refusals_agree() {
             }
         }
     }
+}
+
+/// The blocks are inputs of `./fields` alone, with any version byte.
+#[test]
+fn blocks() {
+    built();
+    let mut lls = fs::read(top().join("examples/lls.bin")).unwrap();
+    let found =
+        "lls [0..12]\n  checksum [0..2] = 65526\n  lls_data_length [2..4] = 3\n  tlvs [4..12]\n";
+    let most = |walk| [vec![2, walk], vec![0; 2048]].concat();
+    let mut cases = vec![
+        (vec![9, 3], "absent\n"),
+        (vec![9, 4], "absent\n"),
+        (lls[..13].to_vec(), "absent\n"),
+        (most(3), "absent\n"),
+        ([most(4), vec![0]].concat(), "refused 2 0\n"),
+        ([lls.clone(), vec![7; 3]].concat(), found),
+    ];
+    for version in [0, 2, 3, 255] {
+        lls[0] = version;
+        cases.push((lls.clone(), found));
+    }
+    for (input, text) in cases {
+        let path = file("commands-block", &input);
+        assert_eq!(
+            printed("fields", &[&path], Stdio::null()),
+            text,
+            "{input:?}"
+        );
+        let refused = if input.len() > 2_050 { 2 } else { 12 };
+        let dissected = printed("dissect", &[&path], Stdio::null());
+        assert_eq!(dissected, format!("refused {refused} 0\n"), "{input:?}");
+    }
+}
+
+/// Beside each example of a block stands what `./fields` prints; beside the others, what `./dissect` does (program.rs).
+/// README.md shows one.
+#[test]
+fn examples_of_blocks() {
+    built();
+    let files = fs::read_dir(top().join("examples")).unwrap();
+    let inputs = files.map(|file| file.unwrap().path());
+    let inputs = inputs.filter(|path| path.extension().is_some_and(|e| e == "bin"));
+    let blocks: Vec<_> = inputs
+        .filter(|path| fs::read(path).unwrap()[1] > 2)
+        .collect();
+    assert_eq!(blocks.len(), 2, "{blocks:?}");
+    for path in blocks {
+        let text = fs::read_to_string(path.with_extension("txt")).unwrap();
+        let path = path.to_str().unwrap();
+        assert_eq!(printed("fields", &[path], Stdio::null()), text, "{path}");
+    }
+    let shown = fs::read_to_string(top().join("examples/lls.txt")).unwrap();
+    let readme = fs::read_to_string(top().join("README.md")).unwrap();
+    assert!(readme.contains(&format!("```text\n{shown}```")), "{shown}");
 }
 
 /// Beside the LS checksum of a whole LSA stands whether it is right; of a header alone nothing is said.

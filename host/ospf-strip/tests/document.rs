@@ -11,7 +11,7 @@ use ospf_strip::{Buffer, Kind, Version};
 use walk::run;
 
 /// Classes that together have every field at every length it may have.
-const CLASSES: [Class; 3] = [Class::Structured, Class::Tos, Class::Prefix];
+const CLASSES: [Class; 4] = [Class::Structured, Class::Tos, Class::Prefix, Class::Block];
 
 fn document() -> String {
     let root = Path::new(env!("CARGO_MANIFEST_DIR"));
@@ -41,11 +41,20 @@ fn rows(part: &str) -> Vec<(u8, Vec<String>)> {
     rows.collect()
 }
 
-/// Runs over the generated inputs of a version.
+/// The rows of a version's ids, and of those of blocks, which both have.
+fn ids(version: u8) -> Vec<(u8, Vec<String>)> {
+    let parts = [format!("Version {version}"), "Blocks".to_string()];
+    parts
+        .iter()
+        .flat_map(|heading| rows(&part(heading)))
+        .collect()
+}
+
+/// Runs over the generated inputs of a version, and those of blocks.
 fn each(version: u8, mut take: impl FnMut(&Input)) {
     for class in CLASSES {
         inputs::of_class(class, 1, 40, &mut |input| {
-            if input.version == version {
+            if input.version == version || input.walk.is_block() {
                 take(&input);
             }
         });
@@ -54,7 +63,7 @@ fn each(version: u8, mut take: impl FnMut(&Input)) {
 
 /// The document's ids with name and label.
 fn documented(version: u8) -> BTreeMap<u8, (String, String)> {
-    let rows = rows(&part(&format!("Version {version}")));
+    let rows = ids(version);
     let named: BTreeMap<_, _> = rows
         .iter()
         .map(|(id, row)| (*id, (row[0].clone(), row[1].clone())))
@@ -91,7 +100,7 @@ fn names_are_this_crates() {
 
 /// The requirements' word for a kind.
 fn word(kind: Kind) -> &'static str {
-    listing::KINDS[kind as usize - 1].0
+    listing::kind(kind as u8).expect("a kind").0
 }
 
 /// Kind and lengths of every id are those of the generated strips; a cell
@@ -109,7 +118,7 @@ fn kinds_and_lengths() {
                 }
             }
         });
-        for (id, row) in rows(&part(&format!("Version {version}"))) {
+        for (id, row) in ids(version) {
             let (kind, lengths) = (row[2].as_str(), row[3].as_str());
             let found = seen.remove(&id).unwrap_or_default();
             assert!(
@@ -131,12 +140,12 @@ fn kinds_and_lengths() {
 #[test]
 fn table_of_kinds() {
     let table = rows(&part("Entries"));
-    let kinds = (1..).zip(listing::KINDS);
-    let kinds = kinds.map(|(kind, (word, body))| (kind, word.to_string(), body.to_string()));
+    let kinds = listing::KINDS;
+    let kinds = kinds.map(|(kind, word, body)| (kind, word.to_string(), body.to_string()));
     let written = table
         .into_iter()
         .map(|(kind, row)| (kind, row[0].clone(), row[1].clone()));
-    assert_eq!(written.collect::<Vec<_>>(), kinds.collect::<Vec<_>>());
+    assert_eq!(written.collect::<Vec<_>>(), kinds);
 }
 
 /// Each line's bytes are those of its printed entry, and all lines are the

@@ -5,17 +5,20 @@ use std::collections::BTreeMap;
 use inputs::Class;
 use ospf_strip::Version;
 
-/// All ids that the reference pushes for structured LSAs, and their names.
+/// All ids that the reference pushes for structured LSAs and for blocks, which
+/// are the same in both versions, and their names.
 fn reference(version: u8) -> BTreeMap<u8, (&'static str, &'static str)> {
     let mut names = BTreeMap::new();
-    inputs::of_class(Class::Structured, 1, 40, &mut |input| {
-        if input.version == version {
-            for (id, field) in input.call().names() {
-                let found = (field.name, field.display_name);
-                assert_eq!(*names.entry(id).or_insert(found), found, "id {id}");
+    for class in [Class::Structured, Class::Block] {
+        inputs::of_class(class, 1, 40, &mut |input| {
+            if input.version == version || input.walk.is_block() {
+                for (id, field) in input.call().names() {
+                    let found = (field.name, field.display_name);
+                    assert_eq!(*names.entry(id).or_insert(found), found, "id {id}");
+                }
             }
-        }
-    });
+        });
+    }
     names
 }
 

@@ -94,7 +94,7 @@ fn generated_inputs_are_printed() {
     assert!(compared > 200, "{compared}");
 }
 
-/// Beside each example stands what is printed for it.
+/// Beside each example stands what is printed for it; a block's is an input of `./fields` (commands.rs).
 #[test]
 fn examples_are_printed() {
     let directory = Path::new(env!("CARGO_MANIFEST_DIR")).join("../../examples");
@@ -102,13 +102,13 @@ fn examples_are_printed() {
     for file in fs::read_dir(directory).unwrap() {
         let path = file.unwrap().path();
         if path.extension().is_some_and(|e| e == "bin") {
+            let input = fs::read(&path).unwrap();
+            if input[1] > 2 {
+                assert_eq!(printed(&input), "refused 12 0\n", "{}", path.display());
+                continue;
+            }
             let text = fs::read_to_string(path.with_extension("txt")).unwrap();
-            assert_eq!(
-                printed(&fs::read(&path).unwrap()),
-                text,
-                "{}",
-                path.display()
-            );
+            assert_eq!(printed(&input), text, "{}", path.display());
             compared += 1;
         }
     }
@@ -121,6 +121,7 @@ fn edges_are_refused_by_number() {
     assert_eq!(printed(b""), "refused 4 0\n");
     assert_eq!(printed(b"\x02"), "refused 4 0\n");
     assert_eq!(printed(b"\x02\x03"), "refused 12 0\n");
+    assert_eq!(printed(b"\x03\x04"), "refused 12 0\n");
     assert_eq!(printed(b"\x01\xff"), "refused 12 0\n");
     assert_eq!(printed(b"\x01\x02"), "refused 1 0\n");
     assert_eq!(printed(b"\x02\x01\x00\x00\x00"), "refused 4 0\n");

@@ -1,6 +1,6 @@
 //! Three readers of strips beside each other: the proved step, this crate's
 //! entries, and the inline functions of include/ospf.h. On the strips of the
-//! walks and on damaged ones they give the same entries, the same end, and
+//! walks and the blocks and on damaged ones they give the same entries, the same end, and
 //! the same refusal at the same place.
 
 mod lines;
@@ -9,7 +9,7 @@ mod walk;
 use c_reader::Step;
 use inputs::{Class, Rng};
 use lines::line;
-use ospf_strip::Kind::{self, Close, Ipv4, Ipv6, Open, U8, U16, U32};
+use ospf_strip::Kind::{self, Bytes, Close, Ipv4, Ipv6, Open, U8, U16, U32, U64};
 use ospf_strip::{Buffer, Entry, Strip, Version, exports};
 use walk::run;
 
@@ -101,6 +101,7 @@ fn strips_of_the_walks() {
         Class::Prefix,
         Class::Damaged,
         Class::Large,
+        Class::Block,
     ] {
         inputs::of_class(class, 8, 20, &mut |input| {
             if let Ok(strip) = run(&mut buffer, &input) {
@@ -150,17 +151,20 @@ fn damaged_strips() {
     let rng = &mut Rng::new(9);
     let mut buffer = Buffer::new();
     let mut numbers = [0; 9];
-    inputs::of_class(Class::Structured, 9, 5, &mut |input| {
-        let Ok(strip) = run(&mut buffer, &input) else {
-            return;
-        };
-        for _ in 0..5 {
-            let bytes = damage(rng, strip.bytes());
-            let (_, number) = compare(strip.version(), &bytes);
-            numbers[usize::from(number)] += 1;
-        }
-        compare_places(&damage(rng, strip.bytes()));
-    });
+    for class in [Class::Structured, Class::Block] {
+        inputs::of_class(class, 9, 5, &mut |input| {
+            let strip = match run(&mut buffer, &input) {
+                Ok(strip) if !strip.bytes().is_empty() => strip,
+                _ => return,
+            };
+            for _ in 0..5 {
+                let bytes = damage(rng, strip.bytes());
+                let (_, number) = compare(strip.version(), &bytes);
+                numbers[usize::from(number)] += 1;
+            }
+            compare_places(&damage(rng, strip.bytes()));
+        });
+    }
     assert!(numbers[0] > 100, "{numbers:?}");
     assert!(numbers[7] > 100 && numbers[8] > 100, "{numbers:?}");
 }
@@ -183,7 +187,7 @@ fn strip_of(rng: &mut Rng, kinds: impl IntoIterator<Item = u8>) -> Vec<u8> {
     let mut bytes = Vec::new();
     for kind in kinds {
         bytes.push(kind);
-        bytes.extend(rng.bytes(listing::KINDS[usize::from(kind) - 1].1));
+        bytes.extend(rng.bytes(listing::kind(kind).expect("a kind").1));
     }
     bytes
 }
@@ -194,15 +198,15 @@ fn any_order_of_entries() {
     let rng = &mut Rng::new(11);
     for _ in 0..2_000 {
         let count = rng.below(30);
-        let mut kind = || 1 + rng.below(listing::KINDS.len()) as u8;
+        let mut kind = || listing::KINDS[rng.below(listing::KINDS.len())].0;
         let kinds: Vec<u8> = (0..count).map(|_| kind()).collect();
         assert_eq!(compare(Version::V2, &strip_of(rng, kinds)).1, 0);
     }
 }
 
 /// What the layouts have in a row: the headers and links of both versions, TOS
-/// metrics of a link and of an external, a prefix.
-const ROWS: [&[Kind]; 7] = [
+/// metrics of a link and of an external, a prefix, the blocks.
+const ROWS: [&[Kind]; 9] = [
     &[Open, U16, U8, U8, Ipv4, Ipv4, U32, U16, U16, Close],
     &[Open, U16, U16, U32, Ipv4, U32, U16, U16, Close],
     &[Open, Ipv4, Ipv4, U8, U8, U16, Close],
@@ -210,6 +214,8 @@ const ROWS: [&[Kind]; 7] = [
     &[Open, U8, U32, Close],
     &[Open, U8, U8, U32, Ipv4, U32, Close],
     &[Open, U8, U8, U16, Ipv6, Close],
+    &[Open, U16, U16, Bytes, Close],
+    &[Open, U16, U16, U16, U64, Bytes, Close],
 ];
 
 /// Each row cut after every entry, at every distance from the strip's end: so

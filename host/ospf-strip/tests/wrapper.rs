@@ -8,14 +8,14 @@ use lines::line;
 use listing::hex;
 use oracle::Walk;
 use ospf_strip::{Buffer, Kind, OutsidePacket, Refusal, Strip, Version, exports};
-use walk::run;
+use walk::{run, strip_of};
 
 /// Entries read back and written again by another program are the strip.
 #[test]
 fn entries_are_the_strip() {
     let mut buffer = Buffer::new();
     let mut strips = 0;
-    for class in [Class::Structured, Class::Damaged] {
+    for class in [Class::Structured, Class::Damaged, Class::Block] {
         inputs::of_class(class, 2, 20, &mut |input| {
             let Ok(strip) = run(&mut buffer, &input) else {
                 return;
@@ -81,6 +81,17 @@ fn refusals_by_number() {
             Refusal::Room { needed: 11 },
             5,
         ),
+        (buffer.lls(&long, 0).unwrap_err(), Refusal::TooLong, 2),
+        (
+            buffer.auth_trailer(&[], 4_294_901_761).unwrap_err(),
+            Refusal::Offset,
+            3,
+        ),
+        (
+            ospf_strip::lls(&[0, 0, 0, 1], 0, &mut [0; 44]).unwrap_err(),
+            Refusal::Room { needed: 45 },
+            5,
+        ),
         (
             ospf_strip::same_prefix(128, &[], 129, &[]).unwrap_err(),
             Refusal::PrefixLength,
@@ -123,36 +134,69 @@ fn packed_answers() {
     assert_eq!(refused, 0x04_0000_0000);
 }
 
+/// The packed answers of the blocks, which have a length of their own.
+#[test]
+fn packed_answers_of_blocks() {
+    let data = hex("FFF6 0003 0001 0004 00000001 00");
+    let mut strip = [0xA5; 75];
+    assert_eq!(exports::ospf_lls(&data[..11], 0, &mut strip), 0);
+    let refused = exports::ospf_lls(&data, 0, &mut strip[..44]);
+    assert_eq!(refused, 0x05_0000_002D);
+    assert_eq!(exports::block_length(refused), 0);
+    assert_eq!(strip, [0xA5; 75]);
+    let found = exports::ospf_lls(&data, 0, &mut strip);
+    assert_eq!(found, 12 << 40 | 45);
+    assert_eq!(exports::unpack(found), (0, 45));
+    assert_eq!(exports::block_length(found), 12);
+    // The longest, with a length field that has each of its bits.
+    let mut longest = vec![0; 65_535];
+    longest[2..4].fill(0xFF);
+    let found = exports::ospf_auth_trailer(&longest, 0, &mut strip);
+    assert_eq!(found, 65_535 << 40 | 75);
+    let refused = exports::ospf_auth_trailer(&longest, u64::MAX, &mut strip);
+    assert_eq!(refused, 0x03_0000_0000);
+}
+
 /// A walk into lent bytes writes what one into a buffer does, and refuses
 /// bytes that are one too few.
 #[test]
 fn lent_bytes() {
     let mut buffer = Buffer::new();
-    let mut strips = 0;
-    inputs::of_class(Class::Structured, 6, 20, &mut |input| {
-        let Ok(expected) = run(&mut buffer, &input) else {
-            return;
-        };
-        let needed = expected.bytes().len();
-        let mut lent = vec![0xA5; needed + 3];
-        let refusal = into(&input, &mut lent[..needed - 1]).unwrap_err();
-        assert_eq!(refusal, Refusal::Room { needed });
-        assert!(lent.iter().all(|&byte| byte == 0xA5));
-        assert_eq!(into(&input, &mut lent), Ok(expected));
-        assert_eq!(lent[needed..], [0xA5; 3]);
-        strips += 1;
-    });
-    assert!(strips > 1_000, "{strips}");
+    let (mut strips, mut absent) = (0, 0);
+    for class in [Class::Structured, Class::Block] {
+        inputs::of_class(class, 6, 20, &mut |input| {
+            let Ok(expected) = run(&mut buffer, &input) else {
+                return;
+            };
+            let needed = expected.bytes().len();
+            let mut lent = vec![0xA5; needed + 3];
+            // What is absent needs no room.
+            if let Some(short) = needed.checked_sub(1) {
+                let refusal = into(&input, &mut lent[..short]).unwrap_err();
+                assert_eq!(refusal, Refusal::Room { needed });
+                assert!(lent.iter().all(|&byte| byte == 0xA5));
+                strips += 1;
+            } else {
+                absent += 1;
+            }
+            assert_eq!(into(&input, &mut lent[..needed]), Ok(expected));
+            assert_eq!(into(&input, &mut lent), Ok(expected));
+            assert_eq!(lent[needed..], [0xA5; 3]);
+        });
+    }
+    assert!(strips > 1_000 && absent > 50, "{strips} {absent}");
 }
 
-/// An input through the walks that take lent bytes.
+/// An input through the walks and the blocks that take lent bytes.
 fn into<'s>(input: &Input, strip: &'s mut [u8]) -> Result<Strip<'s>, Refusal> {
     let (data, offset) = (&input.data, input.offset);
-    let version = Version::try_from(input.version)?;
+    let version = || Version::try_from(input.version);
     match input.walk {
-        Walk::Headers => ospf_strip::lsa_headers(version, data, offset, strip),
-        Walk::Update => ospf_strip::lsu_lsas(version, data, input.count, offset, strip),
-        Walk::Lsa => ospf_strip::lsa(version, data, offset, strip),
+        Walk::Headers => ospf_strip::lsa_headers(version()?, data, offset, strip),
+        Walk::Update => ospf_strip::lsu_lsas(version()?, data, input.count, offset, strip),
+        Walk::Lsa => ospf_strip::lsa(version()?, data, offset, strip),
+        Walk::Lls => ospf_strip::lls(data, offset, strip).map(strip_of),
+        Walk::AuthTrailer => ospf_strip::auth_trailer(data, offset, strip).map(strip_of),
     }
 }
 
@@ -209,7 +253,12 @@ fn parts_of_accepted_walks() {
     let front = 9;
     let mut buffer = Buffer::new();
     let (mut parts, mut held) = (0, 0);
-    for class in [Class::Structured, Class::Damaged, Class::Offset] {
+    for class in [
+        Class::Structured,
+        Class::Damaged,
+        Class::Offset,
+        Class::Block,
+    ] {
         inputs::of_class(class, 4, 20, &mut |input| {
             let (data, offset) = (&input.data, input.offset);
             let Ok(strip) = run(&mut buffer, &input) else {

@@ -3,7 +3,7 @@
 
 use oracle::{Answer, Walk};
 
-/// A call of a walk, the length of the buffer lent to it, and the answer.
+/// A call, the length of the buffer lent to it, and the answer.
 #[derive(Clone, Debug, PartialEq, Eq)]
 pub struct Sample {
     pub version: u8,
@@ -27,7 +27,12 @@ impl Sample {
         out.extend_from_slice(&self.data);
         out.push(self.answer.number);
         out.extend_from_slice(&self.answer.length.to_be_bytes());
-        out.extend_from_slice(&self.answer.records.to_be_bytes());
+        let records = if self.walk.is_block() {
+            self.answer.block
+        } else {
+            self.answer.records
+        };
+        out.extend_from_slice(&records.to_be_bytes());
         out.extend_from_slice(&self.answer.tail.to_be_bytes());
         out.extend_from_slice(&self.strip);
     }
@@ -55,17 +60,11 @@ struct Reader<'a>(&'a [u8]);
 impl<'a> Reader<'a> {
     fn sample(&mut self) -> Option<Sample> {
         let version = self.byte()?;
-        let walk = [Walk::Headers, Walk::Update, Walk::Lsa];
-        let walk = *walk.get(self.byte()? as usize)?;
+        let walk = *Walk::ALL.get(self.byte()? as usize)?;
         let (count, offset, room) = (self.number()?, self.long()?, self.number()?);
         let length = self.number()? as usize;
         let data = self.take(length)?.to_vec();
-        let answer = Answer {
-            number: self.byte()?,
-            length: self.number()?,
-            records: self.number()?,
-            tail: self.number()?,
-        };
+        let answer = self.answer(walk)?;
         let length = if answer.number == 0 { answer.length } else { 0 };
         Some(Sample {
             version,
@@ -76,6 +75,24 @@ impl<'a> Reader<'a> {
             data,
             answer,
             strip: self.take(length as usize)?.to_vec(),
+        })
+    }
+
+    /// An answer; of a block its length stands where a walk has the records.
+    fn answer(&mut self, walk: Walk) -> Option<Answer> {
+        let (number, length) = (self.byte()?, self.number()?);
+        let (first, tail) = (self.number()?, self.number()?);
+        let (records, block) = if walk.is_block() {
+            (0, first)
+        } else {
+            (first, 0)
+        };
+        Some(Answer {
+            number,
+            length,
+            records,
+            tail,
+            block,
         })
     }
 

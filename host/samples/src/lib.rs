@@ -3,6 +3,7 @@
 //! samples/README.md has the format. [`oracle_bin`] and [`captures_bin`] give
 //! the whole contents of the two files; the same bytes at every run.
 
+mod blocks;
 mod chosen;
 mod format;
 

@@ -5,7 +5,7 @@ use std::fs;
 use std::path::Path;
 
 use listing::hex;
-use oracle::{Answer, Walk};
+use oracle::{Answer, Call, Walk};
 use samples::{Room, Sample, answered, captures_bin, oracle_bin, read, write};
 
 fn stored(name: &str) -> Vec<u8> {
@@ -17,7 +17,7 @@ fn stored(name: &str) -> Vec<u8> {
 fn check(name: &str, made: &[u8]) {
     let stored = stored(name);
     assert!(stored == made, "{name} is not what the command makes");
-    assert!(stored.len() < 1_500_000, "{}", stored.len());
+    assert!(stored.len() < 1_000_000, "{}", stored.len());
     let samples = read(&stored).expect("samples");
     assert!(write(samples) == stored, "{name} read and written again");
 }
@@ -53,6 +53,7 @@ fn worked() -> Sample {
             length: 132,
             records: 1,
             tail: 1,
+            block: 0,
         },
         strip,
     }
@@ -69,6 +70,49 @@ fn format_by_hand() {
     assert_eq!(write([worked()]), bytes);
     assert_eq!(read(&bytes), Some(vec![worked()]));
     assert_eq!(read(&bytes[..bytes.len() - 1]), None);
+}
+
+/// A trailer of 16 bytes before another byte, and an absent one: the block's
+/// length stands in the place of the records.
+#[test]
+fn blocks_by_hand() {
+    let call = "07 04 00000000 0000000000000000 0000004B";
+    let trailer = "0001 0010 0000 0064 0000000000000002";
+    let strip = listing::strip(
+        "open 152 0 16\n u16 144 0 2 1\n u16 145 2 4 16\n u16 146 6 8 100\n \
+         u64 147 8 16 2\n bytes 148 16 16\n close",
+    );
+    let found = [
+        hex(&format!("{call} 00000011 {trailer} FF")),
+        hex("00 0000004B 00000010 00000000"),
+        strip,
+    ];
+    let absent = hex(&format!(
+        "{call} 00000002 0001 00 00000000 00000000 00000000"
+    ));
+    let bytes = [found.concat(), absent].concat();
+    let samples = read(&bytes).expect("samples");
+    assert_eq!(samples[0].answer.block, 16);
+    assert_eq!(samples[1].answer, Answer::default());
+    assert!(samples.iter().all(|s| s.answer.records == 0));
+    for sample in &samples {
+        let mut strip = vec![0; 75];
+        let call = Call {
+            version: sample.version,
+            walk: sample.walk,
+            data: &sample.data,
+            count: sample.count,
+            offset: sample.offset,
+        };
+        let answer = call.run().lend(&mut strip);
+        assert_eq!(answer, sample.answer);
+        assert!(strip.starts_with(&sample.strip));
+    }
+    assert_eq!(write(samples), bytes);
+    // No other walk has a number.
+    let mut other = bytes;
+    other[1] = 5;
+    assert_eq!(read(&other), None);
 }
 
 /// The oracle gives that sample's answer.
@@ -102,6 +146,41 @@ fn every_answer_is_there() {
     for (walk, number) in [(2, 2), (1, 4), (2, 4)] {
         assert!(found.contains(&(walk, number)), "walk {walk}: {number}");
     }
+    for walk in [3, 4] {
+        let numbers: Vec<u8> = (0..=255).filter(|&n| found.contains(&(walk, n))).collect();
+        assert_eq!(numbers, [0, 2, 3, 5], "walk {walk}");
+    }
     let long = samples.iter().filter(|s| s.data.len() > 2_048).count();
     assert!((1..10).contains(&long), "{long}");
+}
+
+/// Blocks that are there and absent ones, with buffers that are empty, full and
+/// larger; refusal 5 with an empty buffer and with one that is a byte short.
+#[test]
+fn every_room_of_a_block() {
+    let samples = read(&stored("oracle.bin")).expect("samples");
+    for walk in [Walk::Lls, Walk::AuthTrailer] {
+        let mut seen: BTreeSet<(u8, bool, &str)> = BTreeSet::new();
+        for sample in samples.iter().filter(|s| s.walk == walk) {
+            let room = match (sample.room, sample.answer.length) {
+                (0, _) => "empty",
+                (room, needed) if room < needed => "short",
+                (room, needed) if room == needed => "full",
+                _ => "larger",
+            };
+            seen.insert((sample.answer.number, sample.answer.block > 0, room));
+        }
+        let expected = [
+            (0, false, "empty"),
+            (0, false, "larger"),
+            (0, true, "full"),
+            (0, true, "larger"),
+            (2, false, "empty"),
+            (3, false, "empty"),
+            (3, false, "larger"),
+            (5, false, "empty"),
+            (5, false, "short"),
+        ];
+        assert_eq!(seen, BTreeSet::from(expected), "{walk:?}");
+    }
 }

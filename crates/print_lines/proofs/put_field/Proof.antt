@@ -10,7 +10,7 @@ returns c =
     let a = c .before .before .before .before .before .before .before .before .before .before .args in
     let w = c .before .before .before .before .before .before .put-word .ensures in
     let x = c .before .before .put-place .ensures in
-    let l = length-place (a .id) (a .start) (a .end) in
+    let l = length-place (a .f .id) (a .f .start) (a .f .end) in
     (then w x, omega (arith, w .place, x .place))
 
 pub put-field-spec : {M : Type 1} → statement M

@@ -10,13 +10,13 @@ use Rattle.replay_agreement.proofs.agrees_in.Statement.{statement}
 use Rattle.replay_agreement.proofs.agrees_in.Tie as tie
 
 -- the walk was called as the stored call says
-ran : (walk : tie.After-walk-by-number) →
+ran : (walk : tie.After-call-by-number) →
     let fill = walk .before .before .before .before .before .before .before in
     let offset = fill .before .before in
     let size = offset .before .before in
     let s = size .before .before .before .args in
     Ran (s .file .now) (s .pos) (size .read-be-u32 .result) (offset .before .read-be-u322 .result) (offset .read-be-u64 .result)
-    (fill .fill .last .0) (walk .walk-by-number .last .1 .1 .1 .1 .1 .0) (walk .walk-by-number .result)
+    (fill .fill .last .0) (walk .call-by-number .last .1 .1 .1 .1 .1 .0) (walk .call-by-number .result)
 ran walk =
     let fill = walk .before .before .before .before .before .before .before in
     let offset = fill .before .before in
@@ -26,8 +26,8 @@ ran walk =
       counted = offset .before .read-be-u322 .ensures;
       placed = offset .read-be-u64 .ensures;
       filled = fill .fill .ensures ∙ ap lent (sym (size .before .before .before .pre .1));
-      said = walk .walk-by-number .ensures .0;
-      left = walk .walk-by-number .ensures .1;
+      said = walk .call-by-number .ensures .0;
+      left = walk .call-by-number .ensures .1;
     }
 
 returns : tie.Need-returns
@@ -49,7 +49,7 @@ returns-2 c =
     let entry = fill .before .before .before .before .before .before .before in
     let f = entry .args .file .now in
     let p = entry .args .pos in
-    let n : length (walk .walk-by-number .last .1 .1 .1 .1 .1 .0) ≡ roomAt f p = omega (arith, walk .walk-by-number .kept, fill .fill .kept, entry .pre .1) in
+    let n : length (walk .call-by-number .last .1 .1 .1 .1 .1 .0) ≡ roomAt f p = omega (arith, walk .call-by-number .kept, fill .fill .kept, entry .pre .1) in
     let r = ran walk in
     (answer-agrees f p r (c .before .before .before .is-answer .ensures) (not-false _ (c .before .before .if1 .left)) n (c .is-buffer .ensures), said-by f p r .1)
 

@@ -1,7 +1,9 @@
 //! The strip of the requirements by hand-written Rust: measured, then written, with
 //! no allocation and no unsafe code. An entry's bytes are taken off the lent
-//! strip by one test, a record's or link's off the data by one.
+//! strip by one test, a record's or link's off the data by one. [`blocks`] has the
+//! readings of blocks.
 
+pub mod blocks;
 pub mod checksum;
 mod v2;
 mod v3;
@@ -98,13 +100,21 @@ pub fn lsa(version: u8, data: &[u8], offset: u64, strip: &mut [u8]) -> u64 {
 /// Refusals 1 to 4 in their order, or 0.
 fn refusal(version: u8, data: &[u8], offset: u64, least: usize) -> u8 {
     if !matches!(version, 2 | 3) {
-        1
-    } else if data.len() > 65_535 {
+        return 1;
+    }
+    match out_of_bounds(data, offset) {
+        0 if data.len() < least => 4,
+        number => number,
+    }
+}
+
+/// Refusals 2 and 3 in their order, or 0.
+#[inline]
+fn out_of_bounds(data: &[u8], offset: u64) -> u8 {
+    if data.len() > 65_535 {
         2
     } else if offset > 4_294_901_760 {
         3
-    } else if data.len() < least {
-        4
     } else {
         0
     }

@@ -9,6 +9,7 @@ const U32: u8 = 5;
 const IPV4: u8 = 6;
 const IPV6: u8 = 7;
 const BYTES: u8 = 8;
+const U64: u8 = 10;
 
 /// A strip as far as it is not written yet. It goes by value from entry to
 /// entry, and so through registers.
@@ -85,6 +86,13 @@ impl<'a> Writer<'a> {
     }
 
     #[inline]
+    pub fn u64(self, id: u8, start: u32, value: u64) -> Writer<'a> {
+        let (entry, rest) = self.entry::<18>(U64, id, start, 8);
+        entry[10..].copy_from_slice(&value.to_be_bytes());
+        rest
+    }
+
+    #[inline]
     pub fn ipv4(self, id: u8, start: u32, address: u32) -> Writer<'a> {
         let (entry, rest) = self.entry::<14>(IPV4, id, start, 4);
         entry[10..].copy_from_slice(&address.to_be_bytes());
@@ -126,6 +134,11 @@ pub fn be16(from: &[u8], at: usize) -> u16 {
 #[inline]
 pub fn be32(from: &[u8], at: usize) -> u32 {
     u32::from_be_bytes([from[at], from[at + 1], from[at + 2], from[at + 3]])
+}
+
+#[inline]
+pub fn be64(from: &[u8], at: usize) -> u64 {
+    u64::from(be32(from, at)) << 32 | u64::from(be32(from, at + 4))
 }
 
 /// The low 24 bits of the word at `at`.

@@ -4,7 +4,7 @@ use ospf_strip::{Entry, Value};
 
 /// The line that the program `dissect` prints for an entry.
 pub fn line(entry: &Entry) -> String {
-    let (word, _) = listing::KINDS[entry.kind() as usize - 1];
+    let (word, _) = listing::kind(entry.kind() as u8).expect("a kind");
     let Some((id, range)) = entry.id().zip(entry.range()) else {
         return word.to_string();
     };

@@ -7,5 +7,5 @@ use Rattle.leaves.proofs.strips.more_kinds.Tie as tie
 pub more-kinds-spec : {M : Type 1} → statement M
 unfolding code
 more-kinds-spec = tie.close (tie.spec
-    (λ c. search needs) (λ c κs. omega arith) (λ c κs. omega arith) (λ c κs. omega arith) (λ c. search needs)
+    (λ c. search needs) (λ c κs. omega arith) (λ c κs. omega arith) (λ c κs. omega arith) (λ c κs. omega arith) (λ c. search needs)
     (λ c. search needs))

@@ -7,5 +7,5 @@ use Rattle.leaves.proofs.strips.numbers.Tie as tie
 pub numbers-spec : {M : Type 1} → statement M
 unfolding code
 numbers-spec = tie.close (tie.spec
-    (λ c. search needs) (λ c κs. omega arith) (λ c κs. omega arith) (λ c κs. omega arith) (λ c κs. omega arith)
+    (λ c. search needs) (λ c κs. omega arith) (λ c κs. omega arith) (λ c κs. omega arith) (λ c κs. omega arith) (λ c κs. omega arith)
     (λ c. search needs) (λ c. search needs))
