@@ -2,7 +2,7 @@
 -- examples.
 use Prim.Native.Nat.{ℕ, _+_, _*_, _≤_, _<_}
 use native.Mathlib.Omega.{arith}
-use mathlib.Core.Path.{_≡_, refl, sym, _∙_}
+use mathlib.Core.Path.{_≡_, refl, sym, ap, _∙_}
 use mathlib.Core.Logic.{_↔_, _⊎_, inl, inr, ⊎-elim}
 use mathlib.Core.Bool.{Bool, true, false}
 use mathlib.Core.List.{List, [], _∷_, _++_}
@@ -22,7 +22,7 @@ use Rattle.format.specs.Refusals.{TooMuch, TooFar}
 use Rattle.format.specs.Packed.{word, packedBlock}
 use Rattle.format.specs.Trailer.Block.{absent as no-block, found as found-block}
 use Rattle.format.specs.Trailer.BlockAnswer.{absent, found, refused}
-use Rattle.format.specs.Trailer.{BlockAnswer, llsRows, llsSize, llsEntries, authTrailerRows, authTrailerSize, authTrailerEntries, limit, llsOf, authTrailerOf, blockOf, blockAnswer, blockStrip}
+use Rattle.format.specs.Trailer.{BlockAnswer, llsRows, llsSize, llsRule, llsEntries, authTrailerRows, authTrailerSize, authTrailerRule, authTrailerEntries, limit, llsOf, authTrailerOf, blockOf, blockAnswer, blockStrip}
 use Rattle.format.specs.Blocks.{BlockAt, LlsAt, AuthTrailerAt, llsShown, authTrailerShown}
 use Rattle.format.specs.Host.{resultIn, numberIn, blockIn, BlockHost}
 use Rattle.format.proofs.Laid.{widen, weaken, laid-append, laid-container}
@@ -244,31 +244,41 @@ trailer-host d o before after r e f =
     rw (e, f) (says 16 authTrailerSize d o (authTrailerEntries d o) 75 (AuthTrailerAt d) (authTrailerShown d o) (trailer-shown d o) (omega arith) (trailer-strip-length d o) (omega arith) (is-block 16 _ d (authTrailerSize d 0) (omega arith)) (trailer-laid d o) before)
 
 -- What follows a block is not looked at: with other bytes after it, the same block stands there, with the same entries.
-module _ (block rest : List ℕ) where
-  same : (k : ℕ) → k < length block → (other : List ℕ) → getD (block ++ other) k 0 ≡ getD (block ++ rest) k 0
-  same k h other = List·getD-append block other 0 k h ∙ sym (List·getD-append block rest 0 k h)
+module _ (block rest other : List ℕ) where
+  same : (k : ℕ) → k < length block → getD (block ++ other) k 0 ≡ getD (block ++ rest) k 0
+  same k h = List·getD-append block other 0 k h ∙ sym (List·getD-append block rest 0 k h)
 
-  pub lls-alone : (o : ℕ) → LlsAt (block ++ rest) (length block) → (other : List ℕ)
-      → LlsAt (block ++ other) (length block) × (llsShown (block ++ other) o (length block) ≡ llsShown (block ++ rest) o (length block))
-  lls-alone o a other =
-      let c = a .covers in
-      let n = a .as-counted in
-      let l = length-append block other in
-      let p = same 0 (omega arith) other in
-      let q = same 1 (omega arith) other in
-      let r = same 2 (omega arith) other in
-      let s = same 3 (omega arith) other in
-      (record { header-there = omega arith; as-counted = rw (r, s) n; covers = c; inside = omega arith }, rw (p, q, r, s))
+  -- Bytes 2 and 3 of the block say its length.
+  counted-alike : 4 ≤ length block → be16At (block ++ other) 2 ≡ be16At (block ++ rest) 2
+  counted-alike h = rw (same 2 (omega arith), same 3 (omega arith))
 
-  pub trailer-alone : (o : ℕ) → AuthTrailerAt (block ++ rest) (length block) → (other : List ℕ)
-      → AuthTrailerAt (block ++ other) (length block) × (authTrailerShown (block ++ other) o (length block) ≡ authTrailerShown (block ++ rest) o (length block))
-  trailer-alone o a other =
-      let c = a .covers in
-      let n = a .as-counted in
+  still : (fixed : ℕ) (declared : List ℕ → ℕ → ℕ) → declared (block ++ other) 0 ≡ declared (block ++ rest) 0
+      → front fixed declared (block ++ rest) ≡ some (length block) → front fixed declared (block ++ other) ≡ some (length block)
+  still fixed declared e f =
+      let s = stood fixed declared (block ++ rest) (length block) f in
+      let n : declared (block ++ other) 0 ≡ length block = e ∙ sym (s .0) in
       let l = length-append block other in
-      let at : (k : ℕ) → k < 16 → getD (block ++ other) k 0 ≡ getD (block ++ rest) k 0 = λ k h. same k (omega arith) other in (
-        record { header-there = omega arith; as-counted = rw (at 2 (omega arith), at 3 (omega arith)) n; covers = c; inside = omega arith },
+      stands-there fixed declared (block ++ other) (record { covers = omega (arith, n, s .0, s .1 .covers); inside = omega (arith, n) }) ∙ ap some n
+
+  pub lls-alone : (o : ℕ) → llsRule (block ++ rest) 0 ≡ some (length block)
+      → (llsRule (block ++ other) 0 ≡ some (length block)) × (llsEntries (block ++ other) o (length block) ≡ llsEntries (block ++ rest) o (length block))
+  lls-alone o f =
+      let s = stood 4 llsSize (block ++ rest) (length block) f in
+      let c : 4 ≤ length block = omega (arith, s .0, s .1 .covers) in (
+        still 4 llsSize (ap (λ (x : ℕ). x * 4) (counted-alike c)) f,
+        rw (lls-shown, lls-shown, same 0 (omega arith), same 1 (omega arith), same 2 (omega arith), same 3 (omega arith)),
+      )
+
+  pub trailer-alone : (o : ℕ) → authTrailerRule (block ++ rest) 0 ≡ some (length block)
+      → (authTrailerRule (block ++ other) 0 ≡ some (length block)) × (authTrailerEntries (block ++ other) o (length block) ≡ authTrailerEntries (block ++ rest) o (length block))
+  trailer-alone o f =
+      let s = stood 16 authTrailerSize (block ++ rest) (length block) f in
+      let c : 16 ≤ length block = omega (arith, s .0, s .1 .covers) in
+      let at : (k : ℕ) → k < 16 → getD (block ++ other) k 0 ≡ getD (block ++ rest) k 0 = λ k h. same k (omega arith) in (
+        still 16 authTrailerSize (counted-alike (omega arith)) f,
         rw (
+          trailer-shown,
+          trailer-shown,
           at 0 (omega arith),
           at 1 (omega arith),
           at 2 (omega arith),
