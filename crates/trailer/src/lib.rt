@@ -91,8 +91,8 @@ pub fn push_auth_trailer(data: &[u8], offset: u64, strip: &mut [u8]) -> Block
     }
 }
 
-// The length of an LLS block at the front of the data, if one stands there. Its own length counts words of 32 bits, of which it
-// has one at least and no more than the data: one test, in which no word at all comes after the most.
+// The length of an LLS block at the front of the data, if one stands there. Its own length counts words of 32 bits: one at least,
+// and no more than the data have. One test sees both, since 0 less 1, in 16 bits, is more words than any data have.
 fn lls_len(data: &[u8]) -> Length
     requires { ⌜ length (now «data») ≤ 65535 ⌝ }
     ensures { λ r. ⌜ r ≡ lengthOf (llsRule (now («data» .entry)) 0) ⌝ }
