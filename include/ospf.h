@@ -8,8 +8,7 @@
  * - Nothing else is asked: what does not fit is refused by number. A refused call leaves what it was lent as it was.
  * - They keep no state, allocate nothing, and write to nothing but the strip_len bytes at strip, or two bytes of the LSA
  *   whose checksum is made, so any number of threads may call them at once, each with a strip or an LSA of its own.
- * - A walk takes up to 786,200 bytes of stack (docs/BENCHMARKS.md, "Stack"). A thread of 1 MiB is enough; some
- *   platforms give a thread less unless asked.
+ * - They take some hundred bytes of stack, whatever they are given (docs/BENCHMARKS.md, "Stack").
  */
 #ifndef OSPF_H
 #define OSPF_H

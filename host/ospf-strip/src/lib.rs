@@ -39,8 +39,7 @@
 //! ```
 //!
 //! A call keeps no state, and any number of threads may make calls at once. It
-//! takes up to 786,200 bytes of stack (docs/BENCHMARKS.md), which the threads
-//! of the standard library have.
+//! takes some hundred bytes of stack, whatever it is given (docs/BENCHMARKS.md).
 
 mod blocks;
 mod checksum;
