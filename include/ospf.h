@@ -131,7 +131,7 @@ enum { OSPF_CHECKSUM_BAD = 0, OSPF_CHECKSUM_GOOD = 1 };
 
 /* Generated from here on: `cargo run --offline -p c-header` in host/ writes it anew. */
 
-/* What an entry is: the first byte of each. */
+/* What an entry is: the first byte of each. OSPF_KIND_UNREACHABLE is a 24-bit metric of all ones. */
 enum {
     OSPF_KIND_OPEN = 1,
     OSPF_KIND_CLOSE = 2,
@@ -141,6 +141,7 @@ enum {
     OSPF_KIND_IPV4 = 6,
     OSPF_KIND_IPV6 = 7,
     OSPF_KIND_BYTES = 8,
+    OSPF_KIND_UNREACHABLE = 9,
     OSPF_KIND_U64 = 10
 };
 
@@ -154,6 +155,7 @@ enum {
     OSPF_BODY_IPV4 = 13,
     OSPF_BODY_IPV6 = 25,
     OSPF_BODY_BYTES = 9,
+    OSPF_BODY_UNREACHABLE = 9,
     OSPF_BODY_U64 = 17
 };
 
@@ -446,7 +448,8 @@ typedef struct ospf_entry {
         OSPF_FOUND(name)                                                    \
     }
 
-/* What stands at a place. Only the place that equals the length is the strip's end. */
+/* What stands at a place. Only the place that equals the length is the strip's end. The kinds that are met least are
+   tried last. */
 static inline OSPF_ALWAYS_INLINE ospf_entry ospf_step(const uint8_t *strip, size_t length, size_t place)
 {
     ospf_entry entry = {0, length, 0, 0};
@@ -457,7 +460,7 @@ static inline OSPF_ALWAYS_INLINE ospf_entry ospf_step(const uint8_t *strip, size
     }
     kind = strip[place];
     OSPF_ARM(U16) OSPF_ARM(U8) OSPF_ARM(IPV4) OSPF_ARM(U32)
-    OSPF_ARM(CLOSE) OSPF_ARM(OPEN) OSPF_ARM(IPV6) OSPF_ARM(BYTES) OSPF_ARM(U64)
+    OSPF_ARM(CLOSE) OSPF_ARM(OPEN) OSPF_ARM(IPV6) OSPF_ARM(BYTES) OSPF_ARM(U64) OSPF_ARM(UNREACHABLE)
     entry.refused = OSPF_REFUSED_KIND;
     return entry;
 cut:
@@ -501,6 +504,7 @@ static inline OSPF_ALWAYS_INLINE ospf_entry ospf_next(const uint8_t *strip, size
         OSPF_THEN(U16) OSPF_THEN(CLOSE) OSPF_THEN(U32) OSPF_THEN(OPEN) OSPF_THEN(U8) OSPF_THEN(IPV4) OSPF_THEN(IPV6)
         break;
     case OSPF_KIND_U32:
+    case OSPF_KIND_UNREACHABLE:
     case OSPF_KIND_IPV4: OSPF_THEN(CLOSE) OSPF_THEN(IPV4) OSPF_THEN(U32) OSPF_THEN(U16) OSPF_THEN(U8) break;
     case OSPF_KIND_IPV6: OSPF_THEN(CLOSE) break;
     default: break;
@@ -529,7 +533,8 @@ static inline uint32_t ospf_start(ospf_entry entry) { return ospf_be32(entry.at 
 
 static inline uint32_t ospf_end(ospf_entry entry) { return ospf_be32(entry.at + 6); }
 
-/* The value, of an entry of that kind; ospf_u32 also of OSPF_KIND_IPV4, an address as a number. */
+/* The value, of an entry of that kind; ospf_u32 also of OSPF_KIND_IPV4, an address as a number. OSPF_KIND_OPEN, _BYTES
+   and _UNREACHABLE have none. */
 static inline uint8_t ospf_u8(ospf_entry entry) { return entry.at[10]; }
 
 static inline uint16_t ospf_u16(ospf_entry entry) { return ospf_be16(entry.at + 10); }

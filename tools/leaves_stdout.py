@@ -11,8 +11,8 @@ import struct
 # kind: name, format of the value
 KINDS = {1: ("open", None), 2: ("close", None), 3: ("u8", "B"), 4: ("u16", "H"),
          5: ("u32", "I"), 6: ("ip4", "I"), 7: ("ip6", "16s"), 8: ("bytes", None),
-         10: ("u64", "Q")}
-BODY = {1: 9, 2: 0, 3: 10, 4: 11, 5: 13, 6: 13, 7: 25, 8: 9, 10: 17}
+         9: ("never", None), 10: ("u64", "Q")}
+BODY = {1: 9, 2: 0, 3: 10, 4: 11, 5: 13, 6: 13, 7: 25, 8: 9, 9: 9, 10: 17}
 
 
 def octets(length):
@@ -129,7 +129,7 @@ def kinds():
     v6 = bytes.fromhex("20010db800000000" + "0000000000000001")
     assert int.from_bytes(v6[:8], "big") == 2306139568115548160
     print_strip(entry(1, 255, top, top) + entry(3, 1, 0, 1, 255) + entry(4, 2, 1, 3, 65535)
-                + entry(5, 3, 3, 7, top) + entry(6, 4, 7, 11, 0xC0A80101) + entry(7, 5, 11, 27, v6)
+                + entry(5, 3, 3, 7, top) + entry(9, 9, 7, 10) + entry(6, 4, 7, 11, 0xC0A80101) + entry(7, 5, 11, 27, v6)
                 + entry(8, 6, 27, 65562) + entry(10, 7, 34, 42, 2 ** 64 - 1) + entry(2))
 
 
@@ -150,14 +150,25 @@ def leaves():
                 + field(7, 20, 8, 4, b[8:12] + bytes(12)) + field(8, 21, 5, 12, None))
 
 
+def metrics():
+    print("metrics")
+    b = bytes.fromhex("00fffffffeffff00")
+    s = b""
+    for p in range(1, 6):
+        v = number(b, p, 3)
+        place = 1000 + p
+        s += entry(9, 15, place, place + 3) if v == 2 ** 24 - 1 else entry(5, 15, place, place + 3, v)
+    print_strip(s.ljust(5 * (1 + BODY[5]), b"\0"))
+
+
 def steps():
     print("steps")
     for s, p in [(b"", 0), (b"", 1), (b"\x02", 0), (b"\x02", 1), (b"\x02", 2), (b"\x00", 0),
-                 (b"\x09", 0), (b"\x0b", 0), (b"\xff", 0), (b"\x01" + b"." * 8, 0),
+                 (b"\x0b", 0), (b"\xff", 0), (b"\x01" + b"." * 8, 0),
                  (b"\x03" + b"." * 9, 0),
                  (b"\x04" + b"." * 10, 0), (b"\x05" + b"." * 12, 0), (b"\x06" + b"." * 12, 0),
                  (b"\x07" + b"." * 24, 0), (b"\x08" + b"." * 8, 0),
-                 (b"\x0a" + b"." * 16, 0),
+                 (b"\x09" + b"." * 8, 0), (b"\x0a" + b"." * 16, 0),
                  (bytes.fromhex("08010000000200000003"), 0)]:
         print(step(s, p)[0])
 
@@ -167,4 +178,5 @@ newness()
 readers()
 kinds()
 leaves()
+metrics()
 steps()

@@ -1,8 +1,8 @@
 /*
  * Calls each export of libospf.a from C, through include/ospf.h: each walk and each block on an example input, its
- * whole strip, the bytes past it, and the strip read by ospf_step beside the proved step; blocks that are absent; the
- * comparisons; the LS checksum; and the refusals. The last line is "c: N checks passed"; the exit status is 0 only
- * where all passed.
+ * whole strip, the bytes past it, and the strip read by ospf_step beside the proved step; metrics that are unreachable;
+ * blocks that are absent; the comparisons; the LS checksum; and the refusals. The last line is "c: N checks passed"; the
+ * exit status is 0 only where all passed.
  */
 #include <stdio.h>
 #include <string.h>
@@ -30,6 +30,7 @@ static void check(int ok, const char *what)
 #define U32(id, start, end, a, b, c, d) OSPF_KIND_U32, id, PLACES(start, end), a, b, c, d
 #define IPV4(id, start, end, a, b, c, d) OSPF_KIND_IPV4, id, PLACES(start, end), a, b, c, d
 #define BYTES(id, start, end) OSPF_KIND_BYTES, id, PLACES(start, end)
+#define UNREACHABLE(id, start, end) OSPF_KIND_UNREACHABLE, id, PLACES(start, end)
 #define U64(id, start, end, a, b, c, d, e, f, g, h) OSPF_KIND_U64, id, PLACES(start, end), a, b, c, d, e, f, g, h
 
 /* The fields of a version 2 header that is at a place: LS type, and the last byte of its length. */
@@ -144,6 +145,41 @@ static void single(void)
     memset(strip, 0xA5, sizeof strip);
     uint64_t answer = ospf_lsa(2, data, sizeof data, 0, strip, sizeof strip);
     check_strip("single LSA", answer, strip, sizeof strip, expected, sizeof expected);
+}
+
+/* A version 2 summary LSA whose metric is unreachable, with two TOS metrics: a cost, and unreachable. */
+static void unreachable_metrics(void)
+{
+    const uint8_t data[36] = {0,    1,    2,    3,    10,   0,    0, 1,  10,  0,    0,    2,
+                              0x80, 0,    0,    1,    0x12, 0x34, 0, 36, 255, 255,  0,    0,
+                              0,    0xFF, 0xFF, 0xFF, 8,    0,    0, 10, 16,  0xFF, 0xFF, 0xFF};
+    const uint8_t expected[] = {HEADER_V2(0, 3, 36),
+                                IPV4(17, 20, 24, 255, 255, 0, 0),
+                                UNREACHABLE(19, 25, 28),
+                                OPEN(20, 28, 36),
+                                OPEN(97, 28, 32),
+                                U8(81, 28, 29, 8),
+                                U32(82, 29, 32, 0, 0, 0, 10),
+                                CLOSE,
+                                OPEN(97, 32, 36),
+                                U8(81, 32, 33, 16),
+                                UNREACHABLE(82, 33, 36),
+                                CLOSE,
+                                CLOSE};
+    uint8_t strip[sizeof expected];
+    memset(strip, 0xA5, sizeof strip);
+    check(ospf_lsa(2, data, sizeof data, 0, strip, sizeof expected - 1) == refused(OSPF_REFUSED_ROOM, sizeof expected),
+          "unreachable metrics, a byte short");
+    uint64_t answer = ospf_lsa(2, data, sizeof data, 0, strip, sizeof strip);
+    check_strip("unreachable metrics", answer, strip, sizeof strip, expected, sizeof expected);
+    int unreachable = 0, costs = 0;
+    ospf_entry entry = ospf_begin();
+    while ((entry = ospf_next(strip, sizeof strip, entry)).kind != 0) {
+        if (entry.kind == OSPF_KIND_CLOSE || strcmp(ospf_name(2, ospf_id(entry)), "metric") != 0) continue;
+        if (entry.kind == OSPF_KIND_UNREACHABLE && ospf_end(entry) - ospf_start(entry) == 3) unreachable++;
+        if (entry.kind == OSPF_KIND_U32 && ospf_u32(entry) == 10) costs++;
+    }
+    check(entry.refused == 0 && unreachable == 2 && costs == 1, "the metrics read");
 }
 
 /* A block of this many bytes is taken, and its strip is the expected one. */
@@ -323,6 +359,7 @@ int main(void)
     headers();
     update();
     single();
+    unreachable_metrics();
     lls();
     auth_trailer();
     no_blocks();

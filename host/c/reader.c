@@ -69,6 +69,7 @@ uint64_t reader_read_all(const uint8_t *strip, size_t length)
         case OSPF_KIND_CLOSE: break;
         case OSPF_KIND_OPEN:
         case OSPF_KIND_BYTES:
+        case OSPF_KIND_UNREACHABLE:
             sum += (uint64_t)ospf_id(entry) + ospf_start(entry) + ospf_end(entry);
             break;
         case OSPF_KIND_U8:

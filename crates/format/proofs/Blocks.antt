@@ -26,7 +26,7 @@ use Rattle.format.specs.Trailer.{BlockAnswer, llsRows, llsSize, llsRule,
 use Rattle.format.specs.Blocks.{BlockAt, LlsAt, AuthTrailerAt, llsShown, authTrailerShown}
 use Rattle.format.specs.Host.{resultIn, numberIn, blockIn, BlockHost}
 use Rattle.format.proofs.Laid.{widen, weaken, laid-append, laid-container}
-use Rattle.format.proofs.Rows.{Within, rows-first}
+use Rattle.format.proofs.Rows.{Within, idsFit, rows-first}
 use Rattle.format.proofs.Part.{written-gives-back}
 use Rattle.format.proofs.Host.{unpacked, past-front}
 use Rattle.format.proofs.Trailer.{Stands, front, stood, stands-there, lls-strip-length, trailer-strip-length, Ends, ends}
@@ -57,11 +57,11 @@ limited d o = go (ltb 65535 (length d)) refl (ltb 4294901760 o) refl
         inr (inr (rw (p, q) refl, λ z. omega (arith, l, z), λ z. omega (arith, m, z)))
 
 -- A block's entries lie in it.
-laid-block : (i : ℕ) (t : Layout) (r fixed : ℕ) (d : List ℕ) (o n : ℕ) → Within fixed t → fixed ≤ n
+laid-block : (i : ℕ) (t : Layout) (r fixed : ℕ) (d : List ℕ) (o n : ℕ) → Within fixed t → idsFit [] t ≡ true → fixed ≤ n
     → Laid anything o (o + n) (container i o (o + n) (entriesAt t d o 0 ++ (bytes r (o + fixed) (o + n) ∷ [])))
-laid-block i t r fixed d o n w h =
+laid-block i t r fixed d o n w v h =
     laid-container i o (o + n) refl (omega arith) (omega arith) (omega arith) (laid-append
-    (widen (omega arith) (omega arith) (weaken (λ x k. refl) (rows-first {c = []} {r = []} d o fixed t w)))
+    (widen (omega arith) (omega arith) (weaken (λ x k. refl) (rows-first {c = []} {ms = []} {r = []} d o fixed t w v)))
     (field {lo = o} {hi = o + n} {x = bytes r (o + fixed) (o + n)} refl refl (omega arith) (omega arith) (omega arith) laid-none))
 
 -- A block with this fixed part and declared length, which stands there where `At` says so.
@@ -210,7 +210,7 @@ lls-shown d o n =
 
 lls-laid : (d : List ℕ) (o n : ℕ) → 4 ≤ n → Laid anything o (o + n) (llsEntries d o n)
 unfolding llsEntries
-lls-laid d o n h = laid-block 136 llsRows 130 4 d o n (omega arith) h
+lls-laid d o n h = laid-block 136 llsRows 130 4 d o n (omega arith) refl h
 
 pub lls-host : (d : List ℕ) (o : ℕ) (before after : List ℕ) (r : ℕ)
     → r ≡ packedBlock (blockAnswer (llsOf d o) (length before)) → after ≡ blockStrip (llsOf d o) before
@@ -235,7 +235,7 @@ trailer-shown d o n =
 
 trailer-laid : (d : List ℕ) (o n : ℕ) → 16 ≤ n → Laid anything o (o + n) (authTrailerEntries d o n)
 unfolding authTrailerEntries
-trailer-laid d o n h = laid-block 152 authTrailerRows 148 16 d o n (omega arith) h
+trailer-laid d o n h = laid-block 152 authTrailerRows 148 16 d o n (omega arith) refl h
 
 pub trailer-host : (d : List ℕ) (o : ℕ) (before after : List ℕ) (r : ℕ)
     → r ≡ packedBlock (blockAnswer (authTrailerOf d o) (length before)) → after ≡ blockStrip (authTrailerOf d o) before

@@ -1,4 +1,5 @@
--- The law of a loop that writes entries of one length n, as many as a count that the body and the strip have room for.
+-- The laws of a loop that writes entries of one length n, as many as a count that the body and the strip have room for, and of
+-- one that sums up their bytes.
 use Prim.Native.Nat.{ℕ, zero, suc, _+_, _*_, _-_, _≤_, _<_}
 use native.Mathlib.Nat.{suc-mul, not-suc-le-zero}
 use native.Mathlib.Omega.{arith}
@@ -10,7 +11,7 @@ use Rattle.format.specs.Wrote.{Wrote}
 use Rattle.format.specs.Cut.{Span, cut, fixedRule}
 use Rattle.format.proofs.Wrote.{kept}
 use Rattle.format.proofs.Unique.{span}
-use Rattle.format.proofs.Loop.{Writing, spread, begin, turn, room, finish}
+use Rattle.format.proofs.Loop.{Writing, Measuring, spread, begin, turn, room, finish, measure-begin, measure-turn, measure-room, measure-finish}
 use Rattle.format.proofs.Lists.{fixed-stands}
 
 -- The entries before pos are written, `left` more lie in the body, and the strip has room for all.
@@ -56,3 +57,35 @@ module _ {n : ℕ} {f : Span → List Entry} {b : List ℕ} {count from : ℕ} {
     pub fixed-finish : left ≡ 0 → Wrote strip₀ at (encode (flatMap f (cut (fixedRule n) b count from))) strip a
     unfolding spread cut
     fixed-finish e = finish (fixedRule n) f b count from strip₀ at (g .writing) (rw e refl) .0
+
+-- The bytes of the entries before pos are summed up, and `left` more entries lie in the body.
+pub record FixedMeasuring (n : ℕ) (f : Span → List Entry) (b : List ℕ) (count from total pos left : ℕ) : Type 0 where
+  pub measuring : Measuring (fixedRule n) f b count from total pos left
+  pub within : pos + left * n ≤ length b
+
+-- The next entry: it lies in the body, the sum with it is no more than that of all, and then the loop stands after it.
+pub record FixedSum (n : ℕ) (f : Span → List Entry) (b : List ℕ) (count from total pos left : ℕ) : Type 0 where
+  pub lies : pos + n ≤ length b
+  pub at-most : total + length (encode (f (span pos n))) ≤ length (spread f (cut (fixedRule n) b count from))
+  pub summed : FixedMeasuring n f b count from (total + length (encode (f (span pos n)))) (pos + n) (left - 1)
+
+module _ {n : ℕ} {f : Span → List Entry} {b : List ℕ} {count from : ℕ} where
+  pub fixed-measure-begin : from + count * n ≤ length b → FixedMeasuring n f b count from 0 from count
+  fixed-measure-begin h = record { measuring = measure-begin (fixedRule n) f b count from; within = h }
+
+  pub fixed-measure-next : {total pos left : ℕ} → FixedMeasuring n f b count from total pos left → 0 < left → FixedSum n f b count from total pos left
+  fixed-measure-next {left = zero} g h = absurd (not-suc-le-zero h)
+  fixed-measure-next {pos = pos} {left = suc k} g h =
+      let m = suc-mul k n in
+      let l : pos + n ≤ length b = omega (arith, g .within) in
+      let e = fixed-stands n b pos l in
+      let q : suc k - 1 ≡ k = omega arith in
+      record {
+        lies = l;
+        at-most = measure-room (fixedRule n) f b count from n (g .measuring) h e;
+        summed = record { measuring = measure-turn (fixedRule n) f b count from n (g .measuring) h e; within = rw q (omega (arith, g .within)) };
+      }
+
+  pub fixed-measure-finish : {total pos left : ℕ} → FixedMeasuring n f b count from total pos left → left ≡ 0 → total ≡ length (spread f (cut (fixedRule n) b count from))
+  unfolding cut
+  fixed-measure-finish g e = measure-finish (fixedRule n) f b count from (g .measuring) (rw e refl) .0

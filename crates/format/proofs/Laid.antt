@@ -13,7 +13,7 @@ use lib.Dec.{ltb, eqb}
 use borrow.Author.Tests.{ltb-true, eqb-true}
 use Rattle.format.specs.Strip.{Entry, Shape, content, container}
 use Rattle.format.specs.Strip.Entry.{opens, closes, bytes}
-use Rattle.format.specs.Strip.Shape.{opening, closing, valued, ranged}
+use Rattle.format.specs.Strip.Shape.{opening, closing, valued, numbered, ranged, costless}
 use Rattle.format.specs.Cut.{Span, Rule, cut, after, standing, fixedRule}
 use Rattle.format.specs.Body.{listing, listingIfAny, leftover}
 use Rattle.format.proofs.Nested.{Nested}
@@ -67,14 +67,17 @@ weaken w (field {x = x} f t a b c l) = field f (w x t) a b c (weaken w l)
 weaken w (group i s e t a b c m l) = group i s e (w (opens i s e) t) a b c (weaken w m) (weaken w l)
 
 -- A test of ids asks no more where it passes all that another does.
-pub only-more : (c c′ r r′ : List ℕ) → ((i : ℕ) → among c i ≡ true → among c′ i ≡ true) → ((i : ℕ) → among r i ≡ true → among r′ i ≡ true) → (x : Entry) → only c r x ≡ true → only c′ r′ x ≡ true
-only-more c c′ r r′ f g x = go (content x .shape)
+pub only-more : (c c′ ms r r′ : List ℕ) → ((i : ℕ) → among c i ≡ true → among c′ i ≡ true) → ((i : ℕ) → among r i ≡ true → among r′ i ≡ true)
+    → (x : Entry) → only c ms r x ≡ true → only c′ ms r′ x ≡ true
+only-more c c′ ms r r′ f g x = go (content x .shape)
   where
-    go : (t : Shape) → passes c r t (content x .id) ≡ true → passes c′ r′ t (content x .id) ≡ true
+    go : (t : Shape) → passes c ms r t (content x .id) ≡ true → passes c′ ms r′ t (content x .id) ≡ true
     go opening h = f (content x .id) h
     go closing h = h
     go valued h = h
+    go (numbered v) h = h
     go ranged h = g (content x .id) h
+    go costless h = h
 
 module _ {has : Entry → Bool} where
   pub laid-append : {lo hi : ℕ} {xs ys : List Entry} → Laid has lo hi xs → Laid has lo hi ys → Laid has lo hi (xs ++ ys)
@@ -177,7 +180,7 @@ cond-same true x = refl
 cond-same false x = refl
 
 -- What is laid out is well nested, by any test that the ids of its containers pass.
-pub laid-nested : (c r : List ℕ) {ok : ℕ → Bool} {lo hi : ℕ} {es : List Entry} → ((i : ℕ) → among c i ≡ true → ok i ≡ true) → Laid (only c r) lo hi es → Nested ok es
-laid-nested c r w none = nested-none
-laid-nested c r w (field f t a b d l) = nested-field f (laid-nested c r w l)
-laid-nested c r w (group i s e t a b d k l) = nested-group i s e (w i t) (laid-nested c r w k) (laid-nested c r w l)
+pub laid-nested : (c ms r : List ℕ) {ok : ℕ → Bool} {lo hi : ℕ} {es : List Entry} → ((i : ℕ) → among c i ≡ true → ok i ≡ true) → Laid (only c ms r) lo hi es → Nested ok es
+laid-nested c ms r w none = nested-none
+laid-nested c ms r w (field f t a b d l) = nested-field f (laid-nested c ms r w l)
+laid-nested c ms r w (group i s e t a b d k l) = nested-group i s e (w i t) (laid-nested c ms r w k) (laid-nested c ms r w l)

@@ -1,11 +1,11 @@
 -- One LSA of version 2 of each layout, whole, at the place 1,000: its bytes, and the entries that the reference pushes
--- for them (host/oracle/tests/proved.rs compares them). The bytes are counted but for counts, flags, types, lengths and
--- the first bit of some TOS. The length that they declare is not their own: a single LSA is all the data given.
+-- for them (host/oracle/tests/proved.rs compares them). The bytes are counted but for counts, flags, types, lengths, the
+-- first bit of some TOS and metrics of all ones. The length that they declare is not their own: a single LSA is all the data given.
 use Prim.Native.Nat.{ℕ, _+_}
 use mathlib.Core.Path.{_≡_, refl}
 use mathlib.Core.List.{List, [], _∷_, flatMap}
 use Rattle.format.specs.Strip.{Entry, container}
-use Rattle.format.specs.Strip.Entry.{opens, closes, u8, u16, u32, ip4, bytes}
+use Rattle.format.specs.Strip.Entry.{opens, closes, u8, u16, u32, ip4, bytes, unreachable}
 use Rattle.format.specs.Cut.{cut, after, standing}
 use Rattle.format.specs.Header.{headerEntries2}
 use Rattle.format.specs.Body.{listing, listingIfAny, whole, leftover, attachedRouter, bodyEntries, bodyTail}
@@ -95,6 +95,48 @@ bodies =
     u32 19 1025 1028 0x1a1b1c ∷
     ip4 21 1028 1032 0x1d1e1f20 ∷
     u32 22 1032 1036 0x21222324 ∷
+    []) 0 ∷
+    -- RFC 2328 appendix B: a metric of 24 one-bits is unreachable. A Summary-LSA's own, and two of three TOS metrics; the one
+    -- between them lacks a bit.
+    lsa 3 20 (
+    but 25 0xff ∷ but 26 0xff ∷ but 27 0xff ∷ but 29 0xff ∷ but 30 0xff ∷ but 31 0xff ∷
+    but 33 0xff ∷ but 34 0xff ∷ but 35 0xfe ∷ but 37 0xff ∷ but 38 0xff ∷ but 39 0xff ∷
+    []) (
+    ip4 17 1020 1024 0x15161718 ∷
+    unreachable 19 1025 1028 ∷
+    opens 20 1028 1040 ∷
+    opens 97 1028 1032 ∷ u8 81 1028 1029 0x1d ∷ unreachable 82 1029 1032 ∷ closes ∷
+    opens 97 1032 1036 ∷ u8 81 1032 1033 0x21 ∷ u32 82 1033 1036 0xfffffe ∷ closes ∷
+    opens 97 1036 1040 ∷ u8 81 1036 1037 0x25 ∷ unreachable 82 1037 1040 ∷ closes ∷
+    closes ∷
+    []) 0 ∷
+    -- An external's own and that of its TOS; a tag of the same number is a number.
+    lsa 5 28 (
+    but 25 0xff ∷ but 26 0xff ∷ but 27 0xff ∷ but 32 0x00 ∷ but 33 0xff ∷ but 34 0xff ∷ but 35 0xff ∷
+    but 37 0xff ∷ but 38 0xff ∷ but 39 0xff ∷
+    []) (
+    ip4 17 1020 1024 0x15161718 ∷
+    u8 13 1024 1025 0 ∷
+    unreachable 19 1025 1028 ∷
+    ip4 21 1028 1032 0x1d1e1f20 ∷
+    u32 22 1032 1036 0xffffff ∷
+    opens 20 1036 1048 ∷
+    opens 97 1036 1048 ∷ u8 80 1036 1037 0 ∷ u8 81 1036 1037 0x25 ∷ unreachable 82 1037 1040 ∷ ip4 83 1040 1044 0x292a2b2c ∷ u32 84 1044 1048 0x2d2e2f30 ∷ closes ∷
+    closes ∷
+    []) 0 ∷
+    -- The metrics of a link have 16 bits: all ones are a number.
+    lsa 1 20 (but 22 0x00 ∷ but 23 0x01 ∷ but 33 0x01 ∷ but 34 0xff ∷ but 35 0xff ∷ but 37 0xff ∷ but 38 0xff ∷ but 39 0xff ∷ []) (
+    u8 10 1020 1021 0x15 ∷
+    u8 11 1020 1021 1 ∷
+    u8 12 1020 1021 1 ∷
+    u8 13 1020 1021 0 ∷
+    u8 14 1020 1021 1 ∷
+    u16 15 1022 1024 0x0001 ∷
+    opens 16 1024 1040 ∷
+    opens 96 1024 1040 ∷ ip4 64 1024 1028 0x191a1b1c ∷ ip4 65 1028 1032 0x1d1e1f20 ∷ u8 66 1032 1033 0x21 ∷ u8 67 1033 1034 0x01 ∷ u16 68 1034 1036 0xffff ∷
+    opens 69 1036 1040 ∷ opens 97 1036 1040 ∷ u8 81 1036 1037 0x25 ∷ u32 82 1038 1040 0xffff ∷ closes ∷ closes ∷
+    closes ∷
+    closes ∷
     []) 0 ∷
     -- RFC 5250: Opaque Type and Opaque ID in the header; TLVs of opaque types 1, 4, 7 and 8; any other opaque type is
     -- raw.

@@ -1,11 +1,11 @@
 -- One LSA of version 3 of each layout, whole, at the place 1,000: its bytes, and the entries that the reference pushes
--- for them (host/oracle/tests/proved.rs compares them). The bytes are counted but for counts, flags, types and lengths.
--- The length that they declare is not their own: a single LSA is all the data given.
+-- for them (host/oracle/tests/proved.rs compares them). The bytes are counted but for counts, flags, types, lengths
+-- and numbers of all ones. The length that they declare is not their own: a single LSA is all the data given.
 use Prim.Native.Nat.{ℕ, _+_, _/_, _%_}
 use mathlib.Core.Path.{_≡_, refl}
 use mathlib.Core.List.{List, [], _∷_, flatMap}
 use Rattle.format.specs.Strip.{Entry, container}
-use Rattle.format.specs.Strip.Entry.{opens, closes, u8, u16, u32, ip4, ip6, bytes}
+use Rattle.format.specs.Strip.Entry.{opens, closes, u8, u16, u32, ip4, ip6, bytes, unreachable}
 use Rattle.format.specs.Prefix.{octets, address}
 use Rattle.format.specs.Cut.{cut, after, standing}
 use Rattle.format.specs.Header.{headerEntries3}
@@ -71,6 +71,30 @@ bodies =
     ip4 21 1028 1032 0x1d1e1f20 ∷
     bytes 33 1032 1033 ∷
     []) 1 ∷
+    -- RFC 2328 appendix B: a metric of 24 one-bits is unreachable, here, in an Inter-Area-Router-LSA, whose options are a number
+    -- though they are all ones, and in an external.
+    lsa 0x2003 12 (but 21 0xff ∷ but 22 0xff ∷ but 23 0xff ∷ but 24 0x20 ∷ []) (
+    unreachable 17 1021 1024 ∷
+    u8 18 1024 1025 0x20 ∷
+    u8 19 1025 1026 0x1a ∷
+    ip6 20 1028 1032 0x1d1e1f2000000000 0x0000000000000000 ∷
+    []) 0 ∷
+    lsa 0x2004 12 (but 21 0xff ∷ but 22 0xff ∷ but 23 0xff ∷ but 25 0xff ∷ but 26 0xff ∷ but 27 0xff ∷ []) (
+    u32 14 1021 1024 0xffffff ∷
+    unreachable 17 1025 1028 ∷
+    ip4 21 1028 1032 0x1d1e1f20 ∷
+    []) 0 ∷
+    lsa 0x4005 8 (but 20 0x00 ∷ but 21 0xff ∷ but 22 0xff ∷ but 23 0xff ∷ but 24 0x00 ∷ but 26 0x00 ∷ but 27 0x00 ∷ []) (
+    u8 7 1020 1021 0x00 ∷
+    u8 10 1020 1021 0 ∷
+    u8 12 1020 1021 0 ∷
+    u8 13 1020 1021 0 ∷
+    unreachable 17 1021 1024 ∷
+    u8 18 1024 1025 0x00 ∷
+    u8 19 1025 1026 0x1a ∷
+    u16 22 1026 1028 0x0000 ∷
+    ip6 20 1028 1028 0x0000000000000000 0x0000000000000000 ∷
+    []) 0 ∷
     -- RFC 5340 A.4.7: flags E, F and T, Metric, PrefixLength 64, PrefixOptions, Referenced LS Type, 8 octets of prefix,
     -- then Forwarding Address, External Route Tag and Referenced Link State ID in this order; 2 bytes more.
     lsa 0x4005 42 (but 20 0x17 ∷ but 24 0x40 ∷ []) (

@@ -7,7 +7,9 @@ use mathlib.Core.List.{List, [], _∷_, _++_, append-nil, flatMap}
 use lib.ListN.{length, drop, length-append, length-drop}
 use lib.Seq.{length-take-le}
 use Rattle.format.specs.Bytes.{part}
-use Rattle.format.specs.Strip.{Entry, code, encode, container}
+use Rattle.format.specs.Metric.{Metric, metricAt}
+use Rattle.format.specs.Metric.Metric.{cost, unreachable}
+use Rattle.format.specs.Strip.{Entry, code, encode, container, metricEntry, metric24At}
 use Rattle.format.specs.Cut.{Span, after}
 use Rattle.format.specs.Body.{listing, listingIfAny, leftover}
 use Rattle.format.specs.V2 as v2
@@ -25,6 +27,25 @@ part-length d p n h = length-take-le n (drop p d) (rw (length-drop p d) (omega a
 -- Entries one after another.
 pub length-both : (xs ys : List Entry) → length (encode (xs ++ ys)) ≡ length (encode xs) + length (encode ys)
 length-both xs ys = ap length (encode-append xs ys) ∙ length-append (encode xs) (encode ys)
+
+-- Entries one by one.
+abbrev total : List Entry → ℕ
+total [] = 0
+total (x ∷ xs) = length (code x) + total xs
+
+pub length-entries : (es : List Entry) → length (encode es) ≡ total es
+unfolding encode
+length-entries [] = refl
+length-entries (x ∷ xs) = length-append (code x) (encode xs) ∙ ap (λ (n : ℕ). length (code x) + n) (length-entries xs)
+
+-- The entry of a metric of 24 bits, which is the longer where it is a cost.
+pub metric-bound : (i : ℕ) (b : List ℕ) (o p : ℕ) → length (code (metric24At i b o p)) ≤ 14
+unfolding code
+metric-bound i b o p = go (metricAt b p)
+  where
+    go : (x : Metric) → length (code (metricEntry i (o + p) (o + p + 3) x)) ≤ 14
+    go (cost v) = omega arith
+    go unreachable = omega arith
 
 -- An entry that is present or not.
 pub length-part : (s : Bool) (e : Entry) → length (encode (cond s (e ∷ []) [])) ≡ cond s (length (code e)) 0

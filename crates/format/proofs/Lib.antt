@@ -31,6 +31,7 @@ pub mod LaidLsa
 pub mod Nested
 pub mod Rows
 pub mod NestedLsa
+pub mod Unreachable
 pub mod Shown
 pub mod Walks
 pub mod Host

@@ -21,7 +21,7 @@ use Rattle.format.specs.Ranges.{Range, ranges, placed}
 use Rattle.format.specs.CutInto.{FixedAt}
 use Rattle.format.specs.Shown.{own, Listed}
 use Rattle.format.specs.Laid.{among}
-use Rattle.format.specs.Lists.{containers, rawOrTlvs, unparsed, linkRanges, prefixRanges}
+use Rattle.format.specs.Lists.{containers, metrics, rawOrTlvs, unparsed, linkRanges, prefixRanges}
 use Rattle.format.proofs.Unique.{span, cut-none, cut-some}
 use Rattle.format.proofs.Nested.{nested-append, nested-leftover, absent, ranges-append, ranges-container, ranges-flat}
 use Rattle.format.proofs.Rows.{rows-nested}
@@ -33,7 +33,7 @@ use Rattle.format.proofs.LaidLsa.{laid-any}
 
 -- An id that is none of an LSA's containers has no range.
 no-range : (v : ℕ) (d : List ℕ) (o i : ℕ) → among (containers v d) i ≡ false → ranges i (lsaEntries v d o) ≡ []
-no-range v d o i h = absent i h (laid-nested (containers v d) (unparsed v ∷ rawOrTlvs v) {ok = among (containers v d)} (λ j k. k) (laid-any v d o))
+no-range v d o i h = absent i h (laid-nested (containers v d) (metrics v d) (unparsed v ∷ rawOrTlvs v) {ok = among (containers v d)} (λ j k. k) (laid-any v d o))
 
 -- Two ways to write the entries of a cut that agree where an entry stands.
 flat-cut : (r : Rule) (b : List ℕ) (f g : Span → List Entry) → ((p n : ℕ) → r b p ≡ some n → f (span p n) ≡ g (span p n)) → (k p : ℕ) → flatMap f (cut r b k p) ≡ flatMap g (cut r b k p)

@@ -6,11 +6,11 @@ use mathlib.Core.Path.{_≡_, refl}
 use mathlib.Core.List.{List, [], _∷_, map, flatMap}
 use lib.ListN.{replicate}
 use Rattle.format.specs.Strip.{code, encode, container}
-use Rattle.format.specs.Strip.Entry.{opens, closes, u8, u16, u32, ip4, ip6, bytes}
+use Rattle.format.specs.Strip.Entry.{opens, closes, u8, u16, u32, ip4, ip6, bytes, unreachable, u64}
 use Rattle.format.specs.Prefix.{octets, address}
 use Rattle.format.specs.Cut.{cut, standing, after}
 use Rattle.format.specs.Header.{headerEntries2, headerEntries3}
-use Rattle.format.specs.Body.{listing, leftover, whole, attachedRouter, bodyEntries, bodyTail}
+use Rattle.format.specs.Body.{listing, listingIfAny, leftover, whole, attachedRouter, bodyEntries, bodyTail}
 use Rattle.format.specs.V2 as v2
 use Rattle.format.specs.V3 as v3
 use Rattle.format.specs.Walks.{answer, answerOf, unless, headersOf, updateOf, lsaOf, walkOf, namedOf, outer, headerObject, lsaObject}
@@ -84,6 +84,41 @@ printing =
     "close" ∷
     "close" ∷
     "bytes 25 20 21" ∷
+    []) ∷
+    -- A Summary-LSA whose own metric and the second of two TOS metrics are unreachable (examples/unreachable.bin).
+    prints (
+    0x02 ∷ 0x02 ∷
+    0x00 ∷ 0x01 ∷ 0x02 ∷ 0x03 ∷
+    0x0a ∷ 0x01 ∷ 0x00 ∷ 0x00 ∷
+    0x0a ∷ 0x00 ∷ 0x00 ∷ 0x01 ∷
+    0x80 ∷ 0x00 ∷ 0x00 ∷ 0x01 ∷
+    0x62 ∷ 0xba ∷ 0x00 ∷ 0x24 ∷
+    0xff ∷ 0xff ∷ 0x00 ∷ 0x00 ∷
+    0x00 ∷ 0xff ∷ 0xff ∷ 0xff ∷
+    0x08 ∷ 0x00 ∷ 0x00 ∷ 0x0a ∷
+    0x10 ∷ 0xff ∷ 0xff ∷ 0xff ∷
+    []) (
+    "ok 1 0 203" ∷
+    "u16 0 0 2 1" ∷
+    "u8 1 2 3 2" ∷
+    "u8 2 3 4 3" ∷
+    "ip4 3 4 8 10.1.0.0" ∷
+    "ip4 4 8 12 10.0.0.1" ∷
+    "u32 5 12 16 2147483649" ∷
+    "u16 6 16 18 25274" ∷
+    "u16 7 18 20 36" ∷
+    "ip4 17 20 24 255.255.0.0" ∷
+    "never 19 25 28" ∷
+    "open 20 28 36" ∷
+    "open 97 28 32" ∷
+    "u8 81 28 29 8" ∷
+    "u32 82 29 32 10" ∷
+    "close" ∷
+    "open 97 32 36" ∷
+    "u8 81 32 33 16" ∷
+    "never 82 33 36" ∷
+    "close" ∷
+    "close" ∷
     []) ∷
     -- The update of version 3: 2 records, of which the first is cut into prefixes, and a tail of 3 bytes.
     prints (0x03 ∷ 0x01 ∷ update3) (
@@ -258,6 +293,8 @@ pub record Listings : Type 0 where
       ip4 14 15 19 0x0a0b0cff ∷
       ip6 20 21 37 0x0123456789abcdef 0xfedcba9876543210 ∷
       bytes 33 38 40 ∷
+      unreachable 19 25 28 ∷
+      u64 147 8 16 18446744073709551615 ∷
       [])
       ≡ lines (
       "open 114 0 4294967295" ∷
@@ -268,11 +305,13 @@ pub record Listings : Type 0 where
       "ip4 14 15 19 10.11.12.255" ∷
       "ip6 20 21 37 0123456789abcdeffedcba9876543210" ∷
       "bytes 33 38 40" ∷
+      "never 19 25 28" ∷
+      "u64 147 8 16 18446744073709551615" ∷
       [])
 
 pub listings : Listings
-unfolding printed firstLine line digits hex programOf walkOf namedOf headersOf updateOf lsaOf answerOf unless outer listing leftover headerObject lsaObject container encode code whole cut standing after
-    headerEntries2 headerEntries3 attachedRouter octets address bodyEntries bodyTail v2.lsaEntries2 v2.lsaTail2 v2.body2 v2.opaqueLsa
+unfolding printed firstLine line digits hex programOf walkOf namedOf headersOf updateOf lsaOf answerOf unless outer listing listingIfAny leftover headerObject lsaObject container encode code whole cut standing after
+    headerEntries2 headerEntries3 attachedRouter octets address bodyEntries bodyTail v2.lsaEntries2 v2.lsaTail2 v2.body2 v2.opaqueLsa v2.summaryLsa v2.summaryTos
     v3.lsaEntries3 v3.body3 v3.networkLsa3 v3.prefix v3.intraAreaPrefixLsa flatMap
 listings = record {
   all-printed = refl;

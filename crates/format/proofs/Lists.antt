@@ -60,6 +60,16 @@ length-uniform f l h (s ∷ ss) =
     let ih = length-uniform f l h ss in
     rw (spread-cons f s ss, length-append, h s, ih, suc-mul) (omega arith)
 
+-- Entries whose bytes are of one length but for a part of them.
+pub length-apart : (f g : Span → List Entry) (l : ℕ) → ((s : Span) → length (encode (f s)) ≡ l + length (encode (g s)))
+    → (ss : List Span) → length (spread f ss) ≡ length ss * l + length (spread g ss)
+unfolding spread encode flatMap
+length-apart f g l h [] = rw zero-mul
+length-apart f g l h (s ∷ ss) =
+    let ih = length-apart f g l h ss in
+    let m = suc-mul (length ss) l in
+    rw (spread-cons f s ss, spread-cons g s ss, length-append, length-append (encode (g s)) (spread g ss)) (omega (arith, h s))
+
 -- An entry of n bytes stands wherever n bytes are left.
 pub fixed-stands : (n : ℕ) (b : List ℕ) (p : ℕ) → p + n ≤ length b → fixedRule n b p ≡ some n
 unfolding standing

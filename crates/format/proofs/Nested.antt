@@ -10,7 +10,7 @@ use lib.Dec.{eqb, ltb}
 use borrow.Author.Tests.{eqb-true}
 use Rattle.format.specs.Strip.{Entry, Shape, content, container}
 use Rattle.format.specs.Strip.Entry.{opens, closes, bytes}
-use Rattle.format.specs.Strip.Shape.{opening, closing, valued, ranged}
+use Rattle.format.specs.Strip.Shape.{opening, closing, valued, numbered, ranged, costless}
 use Rattle.format.specs.Cut.{Span}
 use Rattle.format.specs.Body.{leftover}
 use Rattle.format.specs.Ranges.{Range, range, begun, opened, ranges}
@@ -51,7 +51,9 @@ opens-nothing i x = go (content x .shape)
     go opening h = let z : _≡_ {A = ℕ} 0 1 = cc in absurd (omega arith)
     go closing h = refl
     go valued h = refl
+    go (numbered v) h = refl
     go ranged h = refl
+    go costless h = refl
 
 -- An id that fails the test is not there.
 pub absent : {ok : ℕ → Bool} {es : List Entry} (i : ℕ) → ok i ≡ false → Nested ok es → ranges i es ≡ []

@@ -172,12 +172,12 @@ gives-back d o n es r t before w h =
 pub headers-give-back : (v : ℕ) (d : List ℕ) (o : ℕ) (before : List ℕ) → answerOf (headersOf v d o) (length before) .number ≡ 0
     → GivesBack d o (take (answerOf (headersOf v d o) (length before) .size) (stripOf (headersOf v d o) before)) (outer v (headerObject v d o) d o 0 (headers d))
 unfolding headersOf
-headers-give-back v d o before h = gives-back d o (refusal v d o 0) _ _ _ before (λ z. laid-headers v d o) h
+headers-give-back v d o before h = gives-back d o (refusal v d o 0) _ _ _ before (λ z. weaken (λ x k. refl) (laid-headers v d o)) h
 
 pub update-gives-back : (v : ℕ) (d : List ℕ) (count o : ℕ) (before : List ℕ) → answerOf (updateOf v d count o) (length before) .number ≡ 0
     → GivesBack d o (take (answerOf (updateOf v d count o) (length before) .size) (stripOf (updateOf v d count o) before)) (outer v (lsaObject v d o) d o 4 (lsas d count))
 unfolding updateOf
-update-gives-back v d count o before h = gives-back d o (refusal v d o 4) _ _ _ before (λ z. laid-update v d count o (limits v d o 4 z .enough)) h
+update-gives-back v d count o before h = gives-back d o (refusal v d o 4) _ _ _ before (λ z. weaken (λ x k. refl) (laid-update v d count o (limits v d o 4 z .enough))) h
 
 pub lsa-gives-back : (v : ℕ) (d : List ℕ) (o : ℕ) (before : List ℕ) → answerOf (lsaOf v d o) (length before) .number ≡ 0
     → GivesBack d o (take (answerOf (lsaOf v d o) (length before) .size) (stripOf (lsaOf v d o) before)) (lsaEntries v d o)

@@ -11,7 +11,7 @@ use lib.Seq.{getD-append-add, getD-append-seam}
 use borrow.Author.Tests.{le-leb, le-ltb, ne-eqb, eq-eqb}
 use Rattle.format.specs.Bytes.{be16, be32, be64}
 use Rattle.format.specs.Strip.{Entry, head, code, encode, bodyLength, entryAt, bodyAt, stepAt, readFrom, readAll}
-use Rattle.format.specs.Strip.Entry.{opens, closes, u8, u16, u32, ip4, ip6, bytes, u64}
+use Rattle.format.specs.Strip.Entry.{opens, closes, u8, u16, u32, ip4, ip6, bytes, unreachable, u64}
 use Rattle.format.specs.Strip.Step.{entry, end}
 use Rattle.format.proofs.Bytes.{back16, back32, back64}
 
@@ -46,8 +46,9 @@ at-entry pre (u16 i s t v) rest = rw (step-at 4 11 pre (head i s t ++ be16 v) re
 at-entry pre (u32 i s t v) rest = rw (step-at 5 13 pre (head i s t ++ be32 v) rest refl refl, back32 s, back32 t, back32 v) (ap (entry (u32 i s t v)) (omega arith))
 at-entry pre (ip4 i s t v) rest = rw (step-at 6 13 pre (head i s t ++ be32 v) rest refl refl, back32 s, back32 t, back32 v) (ap (entry (ip4 i s t v)) (omega arith))
 at-entry pre (ip6 i s t h l) rest = rw (step-at 7 25 pre (head i s t ++ (be64 h ++ be64 l)) rest refl refl, back32 s, back32 t, back64 h, back64 l) (ap (entry (ip6 i s t h l)) (omega arith))
-at-entry pre (u64 i s t v) rest = rw (step-at 10 17 pre (head i s t ++ be64 v) rest refl refl, back32 s, back32 t, back64 v) (ap (entry (u64 i s t v)) (omega arith))
 at-entry pre (bytes i s t) rest = rw (step-at 8 9 pre (head i s t) rest refl refl, back32 s, back32 t) (ap (entry (bytes i s t)) (omega arith))
+at-entry pre (unreachable i s t) rest = rw (step-at 9 9 pre (head i s t) rest refl refl, back32 s, back32 t) (ap (entry (unreachable i s t)) (omega arith))
+at-entry pre (u64 i s t v) rest = rw (step-at 10 17 pre (head i s t ++ be64 v) rest refl refl, back32 s, back32 t, back64 v) (ap (entry (u64 i s t v)) (omega arith))
 
 -- the step at the strip's end
 pub at-end : (s : List ℕ) → stepAt s (length s) ≡ end

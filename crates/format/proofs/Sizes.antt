@@ -23,7 +23,7 @@ use Rattle.format.proofs.Rules.{inside, link-inside}
 use Rattle.format.proofs.Prefix.{fits-inside}
 use Rattle.format.proofs.Loop.{spread}
 use Rattle.format.proofs.Lists.{length-listing}
-use Rattle.format.proofs.Lengths.{part-length, at-most, length-both, length-link, length-prefix, length-optional, length-header-object, length-lsa-object, length-outer}
+use Rattle.format.proofs.Lengths.{part-length, at-most, length-both, length-entries, metric-bound, length-link, length-prefix, length-optional, length-header-object, length-lsa-object, length-outer}
 use Rattle.format.proofs.Bounds.{header-bound, leftover-bound, each-bound, cut-bound, whole-bound, array-bound, Sized, raw-sized, least-sized, choice-sized, lsa-sized}
 
 -- Version 2: nine bytes for each byte of the body at most, and 42 more. A Router-LSA's flags, count and array come with its
@@ -60,13 +60,17 @@ module _ (b : List ℕ) (o : ℕ) where
   unfolding v2.summaryLsa v2.summaryTos container encode code
   summary = least-sized b 8 _ (λ h.
       let l = array-bound 20 (v2.summaryTos b o) o 8 (whole 4 b 8) in
-      omega (arith, whole-bound 4 (v2.summaryTos b o) b 9 (λ s. omega arith) 8))
+      let w = whole-bound 4 (v2.summaryTos b o) b 9 (λ s. omega (arith, length-entries (v2.summaryTos b o s), metric-bound 82 b o (s .at + 1))) 8 in
+      let own = entriesAt v2.summaryRows b o 0 in
+      rw (length-both own) (omega (arith, length-entries own, metric-bound 19 b o 5)))
 
   external2 : Sized2 b (v2.externalLsa2 b o)
   unfolding v2.externalLsa2 v2.externalTos container encode code
   external2 = least-sized b 16 _ (λ h.
       let l = array-bound 20 (v2.externalTos b o) o 16 (whole 12 b 16) in
-      omega (arith, whole-bound 12 (v2.externalTos b o) b 9 (λ s. omega arith) 16))
+      let w = whole-bound 12 (v2.externalTos b o) b 9 (λ s. omega (arith, length-entries (v2.externalTos b o s), metric-bound 82 b o (s .at + 1))) 16 in
+      let own = v2.externalFields b o in
+      rw (length-both own) (omega (arith, length-entries own, metric-bound 19 b o 5)))
 
   opaque : (t : ℕ) → Sized2 b (v2.opaqueLsa t b o)
   unfolding v2.opaqueLsa encode code
@@ -118,11 +122,11 @@ module _ (b : List ℕ) (o : ℕ) where
       go : (x : Option ℕ) → v3.fixedPrefixFits b ≡ x
           → Sized3 b (elim x [ none ↦ raw | some n ↦ decoded (entriesAt (v3.interAreaPrefixRows n) b o 0) (8 + n) ])
       go none e = raw-sized
-      go (some n) e = let i = fits-inside b (getD b 4 0) 8 n e in record { bound = omega arith }
+      go (some n) e = let i = fits-inside b (getD b 4 0) 8 n e in record { bound = omega (arith, length-entries (entriesAt (v3.interAreaPrefixRows n) b o 0), metric-bound 17 b o 1) }
 
   inter-area-router : Sized3 b (v3.interAreaRouterLsa b o)
   unfolding v3.interAreaRouterLsa encode code
-  inter-area-router = least-sized b 12 _ (λ h. omega arith)
+  inter-area-router = least-sized b 12 _ (λ h. omega (arith, length-entries (entriesAt v3.interAreaRouterRows b o 0), metric-bound 17 b o 5))
 
   external3 : Sized3 b (v3.externalLsa3 b o)
   unfolding v3.externalLsa3 encode code
@@ -140,7 +144,8 @@ module _ (b : List ℕ) (o : ℕ) where
       ])
       go none = raw-sized
       go (some n) = least-sized b (v3.externalEnd b n) _ (λ h.
-          omega (arith, length-optional b o n, part (v3.hasForwarding b) 26 16 (omega arith), part (v3.hasTag b) 14 4 (omega arith), part (v3.hasReference b) 14 4 (omega arith)))
+          rw (length-both (v3.externalFlags b o), length-both (v3.externalPrefix b o n))
+          (omega (arith, length-entries (v3.externalPrefix b o n), metric-bound 17 b o 1, length-optional b o n, part (v3.hasForwarding b) 26 16 (omega arith), part (v3.hasTag b) 14 4 (omega arith), part (v3.hasReference b) 14 4 (omega arith))))
 
   link-lsa : Sized3 b (v3.linkLsa b o)
   unfolding v3.linkLsa encode code

@@ -1,15 +1,14 @@
 -- The strip reader's step, case by case: what it answers, exactly when.
 use Prim.Native.Nat.{ℕ, zero, suc, _+_, _-_, _≤_, _<_}
-use native.Mathlib.Nat.{lt-of-not-le}
 use native.Mathlib.Omega.{arith}
 use mathlib.Core.Path.{_≡_, refl, _∙_}
 use mathlib.Core.Logic.{_⊎_, inl, inr, ⊎-elim}
 use mathlib.Core.Bool.{Bool, true, false}
-use mathlib.Core.List.{List, [], _∷_, _++_}
+use mathlib.Core.List.{List, [], _∷_}
 use mathlib.Core.Option.{none, some}
 use lib.ListN.{length, getD}
-use lib.Dec.{ltb, leb, eqb}
-use borrow.Author.Tests.{ltb-true, ltb-false, leb-true, leb-false, lt-ltb, le-ltb, le-leb, lt-leb, eq-eqb, ne-eqb, eqb-true, eqb-false}
+use lib.Dec.{ltb, leb}
+use borrow.Author.Tests.{ltb-true, ltb-false, leb-true, leb-false, lt-ltb, le-ltb, le-leb, lt-leb, eq-eqb, ne-eqb}
 use Rattle.format.specs.Strip.{Step, lengthIn, bodyLength, entryAt, bodyAt, stepAt}
 use Rattle.format.specs.Strip.Step.{entry, end, refused}
 use Rattle.format.specs.Refusals.{bodyBytes, Kind, entryEnd, Steps}
@@ -19,49 +18,31 @@ abbrev rows : ℕ → List ℕ → List (ℕ × ℕ)
 rows j [] = []
 rows j (l ∷ ls) = (j, l) ∷ rows (suc j) ls
 
--- A kind among them has its length, whatever follows, and another is sought in what follows.
-found : (ls more : List ℕ) (rest : List (ℕ × ℕ)) (j n k : ℕ) → n < length ls → k ≡ j + n → lengthIn (rows j ls ++ rest) k ≡ some (getD (ls ++ more) n 0)
-found [] more rest j n k h e = absurd (omega arith)
-found (l ∷ ls) more rest j zero k h e = rw (eq-eqb k j (omega arith))
-found (l ∷ ls) more rest j (suc n) k h e = rw (ne-eqb k j (λ z. omega arith)) (found ls more rest (suc j) n k (omega arith) (omega arith))
+-- A kind among them has its length, and no other has one.
+found : (ls : List ℕ) (j n k : ℕ) → n < length ls → k ≡ j + n → lengthIn (rows j ls) k ≡ some (getD ls n 0)
+found [] j n k h e = absurd (omega arith)
+found (l ∷ ls) j zero k h e = rw (eq-eqb k j (omega arith))
+found (l ∷ ls) j (suc n) k h e = rw (ne-eqb k j (λ z. omega arith)) (found ls (suc j) n k (omega arith) (omega arith))
 
-lost : (ls : List ℕ) (rest : List (ℕ × ℕ)) (j k : ℕ) → (j ≤ k → k < j + length ls → ⊥) → lengthIn (rows j ls ++ rest) k ≡ lengthIn rest k
-lost [] rest j k h = refl
-lost (l ∷ ls) rest j k h = rw (ne-eqb k j (λ z. h (omega arith) (omega arith))) (lost ls rest (suc j) k (λ a b. h (omega arith) (omega arith)))
+lost : (ls : List ℕ) (j k : ℕ) → (j ≤ k → k < j + length ls → ⊥) → lengthIn (rows j ls) k ≡ none
+lost [] j k h = refl
+lost (l ∷ ls) j k h = rw (ne-eqb k j (λ z. h (omega arith) (omega arith))) (lost ls (suc j) k (λ a b. h (omega arith) (omega arith)))
 
--- `bodies` is the rows of the kinds 1 to 8, then that of 10: these are the kinds and no other, and their bodies have these
--- lengths.
-abbrev eight : List ℕ
-eight = 9 ∷ 0 ∷ 10 ∷ 11 ∷ 13 ∷ 13 ∷ 25 ∷ 9 ∷ []
-
-abbrev tenth : List (ℕ × ℕ)
-tenth = (10, 17) ∷ []
-
+-- `bodies` is the rows of the kinds from 1 on: these are the kinds and no other, and their bodies have these lengths.
 pub kind-length : (k : ℕ) → Kind k → bodyLength k ≡ some (getD bodyBytes (k - 1) 0)
-kind-length k h = go (leb k 8) refl
-  where
-    go : (t : Bool) → leb k 8 ≡ t → bodyLength k ≡ some (getD bodyBytes (k - 1) 0)
-    go true e = found eight (0 ∷ 17 ∷ []) tenth 1 (k - 1) k (omega (arith, h .0, leb-true k 8 e)) (omega (arith, h .0))
-    go false e =
-        let l = leb-false k 8 e in
-        let m : 10 ≤ k = lt-of-not-le (λ z. h .2 (omega (arith, z))) in
-        let q : k ≡ 10 = omega (arith, h .1) in
-        rw q refl
+kind-length k h = found bodyBytes 1 (k - 1) k (omega (arith, h .0, h .1)) (omega (arith, h .0))
 
 pub no-kind : (k : ℕ) → (Kind k → ⊥) → bodyLength k ≡ none
-no-kind k h =
-    lost eight tenth 1 k (λ a b. h (a, omega arith, λ z. omega arith))
-    ∙ rw (ne-eqb k 10 (λ z. h (omega arith, omega arith, λ y. omega arith)))
+no-kind k h = lost bodyBytes 1 k (λ a b. h (a, omega arith))
 
 -- A number is a kind or it is none.
 decided : (k : ℕ) → Kind k ⊎ (Kind k → ⊥)
-decided k = go (leb 1 k) refl (leb k 10) refl (eqb k 9) refl
+decided k = go (leb 1 k) refl (leb k 10) refl
   where
-    go : (a : Bool) → leb 1 k ≡ a → (b : Bool) → leb k 10 ≡ b → (c : Bool) → eqb k 9 ≡ c → Kind k ⊎ (Kind k → ⊥)
-    go false f b g c h = inr (λ z. omega (arith, leb-false 1 k f, z .0))
-    go true f false g c h = inr (λ z. omega (arith, leb-false k 10 g, z .1))
-    go true f true g true h = inr (λ z. z .2 (eqb-true k 9 h))
-    go true f true g false h = inl (leb-true 1 k f, leb-true k 10 g, eqb-false k 9 h)
+    go : (a : Bool) → leb 1 k ≡ a → (b : Bool) → leb k 10 ≡ b → Kind k ⊎ (Kind k → ⊥)
+    go false f b g = inr (λ z. omega (arith, leb-false 1 k f, z .0))
+    go true f false g = inr (λ z. omega (arith, leb-false k 10 g, z .1))
+    go true f true g = inl (leb-true 1 k f, leb-true k 10 g)
 
 -- What each answer says of the strip and the place.
 abbrev Says : List ℕ → ℕ → Step → Type 0

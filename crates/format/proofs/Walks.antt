@@ -20,8 +20,9 @@ use Rattle.format.specs.Shown.{own, UpdateShows, OneShows, HeadersShow}
 use Rattle.format.specs.Lists.{unparsed}
 use Rattle.format.proofs.Nested.{Nested}
 use Rattle.format.proofs.Nested.Nested.{none}
-use Rattle.format.proofs.Laid.{cut-inside}
+use Rattle.format.proofs.Laid.{cut-inside, weaken}
 use Rattle.format.proofs.LaidLsa.{laid-lsa}
+use Rattle.format.proofs.Unreachable.{metrics-shown, unreachable-passes}
 use Rattle.format.proofs.LaidWalks.{laid-headers, laid-update, lsa-ending}
 use Rattle.format.proofs.ListRanges.{link-ranges, prefix-ranges, update-links, update-prefixes}
 use Rattle.format.proofs.NestedLsa.{below, nested-lsa, nested-header}
@@ -60,6 +61,7 @@ update-shows v d count o before h =
     let k = taken (refusal v d o 4) es (length (lsas d count)) (length d - after 4 (lsas d count)) before h in
     let held : Span → List Entry = λ (s : Span). lsaEntries v (own d s) (o + s .at) in
     let nested : (s : Span) → Nested below (held s) = λ s. nested-lsa v (own d s) (o + s .at) in
+    let l = laid-update v d count o (limits v d o 4 (k .not-refused) .enough) in
     let ends = cut-inside 20 _ d count 4 (limits v d o 4 (k .not-refused) .enough) in
     let sh = shows recordRule d (RecordAt d) (record-stands d) count 4 ends o 114 113 (unparsed v) held below refl refl refl refl
     nested [] none es (length d - after 4 (lsas d count)) refl refl in
@@ -68,7 +70,9 @@ update-shows v d count o before h =
       spans = lsas d count;
       end = after 4 (lsas d count);
       read = read-strip es before (k .fits);
-      laid = laid-update v d count o (limits v d o 4 (k .not-refused) .enough);
+      laid = weaken (λ x u. refl) l;
+      unreachable-ids = λ i s e m. unreachable-passes l m;
+      metrics-shown = λ s. metrics-shown v (own d s) (o + s .at);
       links = update-links v d count o;
       prefixes = λ e. rw e (update-prefixes d count o);
       shows = sh;
@@ -90,6 +94,7 @@ one-shows v d o before h =
       entries = es;
       read = read-strip es before (k .fits);
       laid = laid-lsa v d o (limits v d o 20 (k .not-refused) .enough);
+      metrics-shown = metrics-shown v d o;
       links = link-ranges v d o;
       prefixes = λ e. rw e (prefix-ranges d o);
       ending = lsa-ending v d o (limits v d o 20 (k .not-refused) .enough);
@@ -119,7 +124,8 @@ headers-show v d o before h =
       spans = cut (fixedRule headerSize) d (length d / 20) 0;
       end = after 0 (cut (fixedRule headerSize) d (length d / 20) 0);
       read = read-strip es before (k .fits);
-      laid = laid-headers v d o;
+      laid = weaken (λ x u. refl) (laid-headers v d o);
+      unreachable-none = λ i s e m. let z : _≡_ {A = ℕ} 0 1 = cc (unreachable-passes (laid-headers v d o) m) in omega arith;
       shows = sh;
       all-whole = omega arith;
       counted = rw q refl;

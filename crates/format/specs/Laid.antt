@@ -7,14 +7,16 @@ use mathlib.Core.List.{List, [], _∷_, _++_}
 use lib.Dec.{eqb}
 use Rattle.format.specs.Strip.{Entry, Shape, content}
 use Rattle.format.specs.Strip.Entry.{opens, closes, bytes}
-use Rattle.format.specs.Strip.Shape.{opening, closing, valued, ranged}
+use Rattle.format.specs.Strip.Shape.{opening, closing, valued, numbered, ranged, costless}
 
 -- Whether an entry neither opens nor closes a container.
 abbrev pub fieldShape : Shape → Bool
 fieldShape opening = false
 fieldShape closing = false
 fieldShape valued = true
+fieldShape (numbered v) = true
 fieldShape ranged = true
+fieldShape costless = true
 
 abbrev pub isField : Entry → Bool
 isField x = fieldShape (content x .shape)
@@ -39,15 +41,30 @@ abbrev pub among : List ℕ → ℕ → Bool
 among [] i = false
 among (x ∷ xs) i = cond (eqb i x) true (among xs i)
 
--- Tests of entries: containers with these ids, kind 8 entries with those, and every field that has a value.
-abbrev pub passes : (containers ranges : List ℕ) → Shape → ℕ → Bool
-passes c r opening i = among c i
-passes c r closing i = true
-passes c r valued i = true
-passes c r ranged i = among r i
+-- Tests of entries: containers, kind 9 entries and kind 8 entries with these ids each, and every field that has a value. A
+-- number of 32 bits with the id of a metric is not LSInfinity.
+abbrev pub passes : (containers metrics ranges : List ℕ) → Shape → ℕ → Bool
+passes c m r opening i = among c i
+passes c m r closing i = true
+passes c m r valued i = true
+passes c m r (numbered v) i = cond (among m i) (cond (eqb v 16777215) false true) true
+passes c m r ranged i = among r i
+passes c m r costless i = among m i
 
-abbrev pub only : (containers ranges : List ℕ) → Entry → Bool
-only c r x = passes c r (content x .shape) (content x .id)
+abbrev pub only : (containers metrics ranges : List ℕ) → Entry → Bool
+only c m r x = passes c m r (content x .shape) (content x .id)
+
+-- A test of kind 9 entries alone.
+abbrev pub reaches : (metrics : List ℕ) → Shape → ℕ → Bool
+reaches m opening i = true
+reaches m closing i = true
+reaches m valued i = true
+reaches m (numbered v) i = true
+reaches m ranged i = true
+reaches m costless i = among m i
+
+abbrev pub unreachableOnly : (metrics : List ℕ) → Entry → Bool
+unreachableOnly m x = reaches m (content x .shape) (content x .id)
 
 -- A test that every entry passes.
 abbrev pub anything : Entry → Bool
@@ -55,10 +72,10 @@ anything x = true
 
 -- How the entries of an LSA end, and what its tail is. At most one entry is of kind 8: the last one, to the end of the
 -- range, which all others lie before. Where it is the unparsed bytes, the tail is its length; a raw body or a tlvs range,
--- which have the ids r, is no tail. The containers have the ids c.
-pub data Ending (c r : List ℕ) (unparsed lo hi : ℕ) (es : List Entry) (tail : ℕ) : Type 0 where
-  nothing-left : Laid (only c []) lo hi es → tail ≡ 0 → Ending c r unparsed lo hi es tail
-  unparsed-left : (front : List Entry) (s : ℕ) → es ≡ front ++ (bytes unparsed s hi ∷ []) → Laid (only c []) lo s front
-      → lo ≤ s → s < hi → tail ≡ hi - s → Ending c r unparsed lo hi es tail
-  raw-or-tlvs : (front : List Entry) (i s : ℕ) → among r i ≡ true → es ≡ front ++ (bytes i s hi ∷ []) → Laid (only c []) lo s front
-      → lo ≤ s → s ≤ hi → tail ≡ 0 → Ending c r unparsed lo hi es tail
+-- which have the ids r, is no tail. The containers have the ids c, and the kind 9 entries the ids m.
+pub data Ending (c m r : List ℕ) (unparsed lo hi : ℕ) (es : List Entry) (tail : ℕ) : Type 0 where
+  nothing-left : Laid (only c m []) lo hi es → tail ≡ 0 → Ending c m r unparsed lo hi es tail
+  unparsed-left : (front : List Entry) (s : ℕ) → es ≡ front ++ (bytes unparsed s hi ∷ []) → Laid (only c m []) lo s front
+      → lo ≤ s → s < hi → tail ≡ hi - s → Ending c m r unparsed lo hi es tail
+  raw-or-tlvs : (front : List Entry) (i s : ℕ) → among r i ≡ true → es ≡ front ++ (bytes i s hi ∷ []) → Laid (only c m []) lo s front
+      → lo ≤ s → s ≤ hi → tail ≡ 0 → Ending c m r unparsed lo hi es tail

@@ -1,5 +1,6 @@
 -- What a reader must believe: the meaning of bytes, of a strip, and of the parts of a link-state advertisement.
 pub mod Bytes
+pub mod Metric
 pub mod Strip
 pub mod Wrote
 pub mod Prefix
@@ -21,6 +22,7 @@ pub mod CutInto
 pub mod Ranges
 pub mod Laid
 pub mod Lists
+pub mod Unreachable
 pub mod Shown
 pub mod Refusals
 pub mod Newer

@@ -1,5 +1,5 @@
--- What each LSA holds, by its type and the length of its body: which containers and kind 8 entries, where its links and
--- its prefixes lie, and when its body is decoded. The numbers are those of the requirements.
+-- What each LSA holds, by its type and the length of its body: which containers, kind 8 and kind 9 entries, where its links
+-- and its prefixes lie, and when its body is decoded. The numbers are those of the requirements.
 use Prim.Native.Nat.{ℕ, _+_, _*_, _-_, _/_, _%_}
 use mathlib.Core.Bool.{Bool, true, cond}
 use mathlib.Core.List.{List, [], _∷_}
@@ -42,6 +42,36 @@ containers3 f n =
 abbrev pub containers : (version : ℕ) → List ℕ → List ℕ
 containers v d = cond (eqb v 2) (containers2 (getD d 3 0) (length (drop 20 d))) (containers3 (be16At d 2 % 8192) (length (drop 20 d)))
 
+-- The metrics of 24 bits, each of which is a cost or unreachable: of summaries (LS types 3 and 4) and externals (5 and 7) in
+-- version 2, the LSA's own (19) and those of its TOS entries (82); in version 3 that of the functions 3, 4, 5 and 7 (17). A
+-- link's TOS metric, which shares the id 82, has 16 bits and is none.
+abbrev pub metricIds : (version : ℕ) → List ℕ
+metricIds v = cond (eqb v 2) (19 ∷ 82 ∷ []) (17 ∷ [])
+
+abbrev pub metrics2 : (lsType : ℕ) → List ℕ
+metrics2 t =
+    cond (eqb t 1) []
+    (cond (eqb t 2) []
+    (cond (eqb t 3) (19 ∷ 82 ∷ [])
+    (cond (eqb t 4) (19 ∷ 82 ∷ [])
+    (cond (eqb t 5) (19 ∷ 82 ∷ [])
+    (cond (eqb t 7) (19 ∷ 82 ∷ [])
+    [])))))
+
+abbrev pub metrics3 : (function : ℕ) → List ℕ
+metrics3 f =
+    cond (eqb f 1) []
+    (cond (eqb f 2) []
+    (cond (eqb f 3) (17 ∷ [])
+    (cond (eqb f 4) (17 ∷ [])
+    (cond (eqb f 5) (17 ∷ [])
+    (cond (eqb f 7) (17 ∷ [])
+    [])))))
+
+-- Those of an LSA.
+abbrev pub metrics : (version : ℕ) → List ℕ → List ℕ
+metrics v d = cond (eqb v 2) (metrics2 (getD d 3 0)) (metrics3 (be16At d 2 % 8192))
+
 -- A raw body and a tlvs range; unparsed bytes.
 abbrev pub rawOrTlvs : (version : ℕ) → List ℕ
 rawOrTlvs v = cond (eqb v 2) (23 ∷ 24 ∷ []) (31 ∷ 32 ∷ [])
@@ -49,9 +79,10 @@ rawOrTlvs v = cond (eqb v 2) (23 ∷ 24 ∷ []) (31 ∷ 32 ∷ [])
 abbrev pub unparsed : (version : ℕ) → ℕ
 unparsed v = cond (eqb v 2) 25 33
 
--- The entries in an LSA: its containers, the three kind 8 entries, and fields with a value.
+-- The entries in an LSA: its containers, its metrics where they are unreachable, the three kind 8 entries, and fields with
+-- a value.
 abbrev pub holds : (version : ℕ) → List ℕ → Entry → Bool
-holds v d = only (containers v d) (unparsed v ∷ rawOrTlvs v)
+holds v d = only (containers v d) (metrics v d) (unparsed v ∷ rawOrTlvs v)
 
 -- The ranges of the spans of a list in a body that begins at the place o, where the body has the bytes before the list's
 -- first place; else it has no list.

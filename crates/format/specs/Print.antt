@@ -6,7 +6,7 @@ use lib.ListN.{length, getD, drop}
 use lib.Dec.{ltb, eqb}
 use Rattle.format.specs.Bytes.{be32At}
 use Rattle.format.specs.Strip.{Entry}
-use Rattle.format.specs.Strip.Entry.{opens, closes, u8, u16, u32, ip4, ip6, bytes, u64}
+use Rattle.format.specs.Strip.Entry.{opens, closes, u8, u16, u32, ip4, ip6, bytes, unreachable, u64}
 use Rattle.format.specs.Walks.{Outcome, Answer, namedOf, answerOf, firstLsa}
 use Rattle.format.specs.Walks.Outcome.{refused, accepted}
 
@@ -92,6 +92,9 @@ ip6Word = 105 ∷ 112 ∷ 54 ∷ []
 abbrev pub bytesWord : List ℕ
 bytesWord = 98 ∷ 121 ∷ 116 ∷ 101 ∷ 115 ∷ []
 
+abbrev pub unreachableWord : List ℕ
+unreachableWord = 110 ∷ 101 ∷ 118 ∷ 101 ∷ 114 ∷ []
+
 abbrev pub u64Word : List ℕ
 u64Word = 117 ∷ 54 ∷ 52 ∷ []
 
@@ -109,6 +112,7 @@ text (u32 i s e v) = field u32Word i s e ++ spaced v
 text (ip4 i s e a) = field ip4Word i s e ++ (32 ∷ dotted a)
 text (ip6 i s e h l) = field ip6Word i s e ++ (32 ∷ (hex 16 h ++ hex 16 l))
 text (bytes i s e) = field bytesWord i s e
+text (unreachable i s e) = field unreachableWord i s e
 text (u64 i s e v) = field u64Word i s e ++ spaced v
 
 -- The line of an entry.

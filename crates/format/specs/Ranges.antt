@@ -4,7 +4,7 @@ use mathlib.Core.Bool.{Bool, cond}
 use mathlib.Core.List.{List, [], _∷_, _++_, map}
 use lib.Dec.{eqb}
 use Rattle.format.specs.Strip.{Entry, Shape, content}
-use Rattle.format.specs.Strip.Shape.{opening, closing, valued, ranged}
+use Rattle.format.specs.Strip.Shape.{opening, closing, valued, numbered, ranged, costless}
 use Rattle.format.specs.Cut.{Span}
 
 -- Where a container begins and ends.
@@ -20,7 +20,9 @@ abbrev pub begun : Shape → Bool → Range → List Range
 begun opening t r = cond t (r ∷ []) []
 begun closing t r = []
 begun valued t r = []
+begun (numbered v) t r = []
 begun ranged t r = []
+begun costless t r = []
 
 -- The range of an entry that opens a container with this id.
 abbrev pub opened : ℕ → Entry → List Range

@@ -49,12 +49,12 @@ pub record Refusals (v : ℕ) (d : List ℕ) (o least room needed : ℕ) (a : An
   pub no-length : (a .number ≡ 0 → ⊥) → (a .number ≡ 5 → ⊥) → a .size ≡ 0
   pub no-records : (a .number ≡ 0 → ⊥) → (a .records ≡ 0) × (a .tail ≡ 0)
 
--- The kinds are 1 to 10 but for 9, and their bodies have these bytes; in the place of 9 stands a 0.
+-- The kinds are 1 to 10, and their bodies have these bytes.
 abbrev pub bodyBytes : List ℕ
-bodyBytes = 9 ∷ 0 ∷ 10 ∷ 11 ∷ 13 ∷ 13 ∷ 25 ∷ 9 ∷ 0 ∷ 17 ∷ []
+bodyBytes = 9 ∷ 0 ∷ 10 ∷ 11 ∷ 13 ∷ 13 ∷ 25 ∷ 9 ∷ 9 ∷ 17 ∷ []
 
 abbrev pub Kind : ℕ → Type 0
-Kind k = (1 ≤ k) × (k ≤ 10) × (k ≡ 9 → ⊥)
+Kind k = (1 ≤ k) × (k ≤ 10)
 
 -- Where the entry at p ends, by the kind that stands there.
 abbrev pub entryEnd : List ℕ → ℕ → ℕ

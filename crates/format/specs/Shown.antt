@@ -1,18 +1,19 @@
 -- How a strip shows the cut of a list: one array, with one container for each span, and the tail after it.
 use Prim.Native.Nat.{ℕ, _+_, _/_, _%_, _≤_, _<_}
 use mathlib.Core.Path.{_≡_}
-use mathlib.Core.Bool.{cond}
-use mathlib.Core.List.{List, [], _∷_, _++_, flatMap}
+use mathlib.Core.Bool.{true, cond}
+use mathlib.Core.List.{List, [], _∷_, _++_, flatMap, List·Memᴰ}
 use mathlib.Core.Option.{some}
 use lib.ListN.{length, getD, take, drop}
 use lib.Dec.{eqb}
 use Rattle.format.specs.Bytes.{be16At, be32At}
 use Rattle.format.specs.Strip.{Entry, container, readAll}
-use Rattle.format.specs.Strip.Entry.{bytes}
+use Rattle.format.specs.Strip.Entry.{bytes, unreachable}
 use Rattle.format.specs.Cut.{Span}
 use Rattle.format.specs.Ranges.{range, ranges, placed}
-use Rattle.format.specs.Laid.{Laid, anything, Ending}
-use Rattle.format.specs.Lists.{containers, rawOrTlvs, unparsed, holds, linkRanges, prefixRanges}
+use Rattle.format.specs.Laid.{Laid, among, anything, Ending}
+use Rattle.format.specs.Lists.{containers, metricIds, metrics, rawOrTlvs, unparsed, holds, linkRanges, prefixRanges}
+use Rattle.format.specs.Unreachable.{MetricsShown}
 use Rattle.format.specs.CutInto.{CutInto, FixedAt, RecordAt, LinkAt, PrefixAt}
 use Rattle.format.specs.Header.{headerEntries2, headerEntries3}
 use Rattle.format.specs.V2.{lsaEntries2}
@@ -60,8 +61,8 @@ abbrev pub own : List ℕ → Span → List ℕ
 own d s = take (s .len) (drop (s .at) d)
 
 -- An accepted update: its strip reads as entries, laid out in the data, that show the cut of its records; each object
--- holds the entries of its LSA's own bytes at its own place, which show the lists inside it; and the answer's records are
--- the spans' number, and the objects'.
+-- holds the entries of its LSA's own bytes at its own place, which show the lists inside it and what its metrics are; a kind
+-- 9 entry has an id of a metric; and the answer's records are the spans' number, and the objects'.
 pub record UpdateShows (v : ℕ) (d : List ℕ) (count o : ℕ) (strip : List ℕ) (records tail : ℕ) : Type 0 where
   pub entries : List Entry
   pub spans : List Span
@@ -72,13 +73,15 @@ pub record UpdateShows (v : ℕ) (d : List ℕ) (count o : ℕ) (strip : List �
       (λ s. cond (eqb v 2) (lsaEntries2 (own d s) (o + s .at)) (lsaEntries3 (own d s) (o + s .at))) entries
   pub links : ranges 96 entries ≡ flatMap (λ (s : Span). linkRanges v (own d s) (o + s .at)) spans
   pub prefixes : v ≡ 3 → ranges 97 entries ≡ flatMap (λ (s : Span). prefixRanges (own d s) (o + s .at)) spans
+  pub unreachable-ids : (i s e : ℕ) → List·Memᴰ (unreachable i s e) entries → among (metricIds v) i ≡ true
+  pub metrics-shown : (s : Span) → MetricsShown (metrics v (own d s)) (cond (eqb v 2) (lsaEntries2 (own d s) (o + s .at)) (lsaEntries3 (own d s) (o + s .at)))
   pub lists : (s : Span) → (t : ℕ) × LsaShows v (own d s) (o + s .at) (cond (eqb v 2) (lsaEntries2 (own d s) (o + s .at)) (lsaEntries3 (own d s) (o + s .at))) t
   pub counted : records ≡ length spans
   pub objects-counted : length (ranges 113 entries) ≡ records
   pub longer : 0 < length strip
 
--- An accepted single LSA: its strip reads as its entries, laid out in the data, which show the lists inside it and end in
--- its tail, if there is one; it is one record.
+-- An accepted single LSA: its strip reads as its entries, laid out in the data, which show the lists inside it, what its
+-- metrics are, and end in its tail, if there is one; it is one record.
 pub record OneShows (v : ℕ) (d : List ℕ) (o : ℕ) (strip : List ℕ) (records tail : ℕ) : Type 0 where
   pub entries : List Entry
   pub read : readAll strip ≡ some entries
@@ -86,13 +89,14 @@ pub record OneShows (v : ℕ) (d : List ℕ) (o : ℕ) (strip : List ℕ) (recor
   pub entries-are : entries ≡ cond (eqb v 2) (lsaEntries2 d o) (lsaEntries3 d o)
   pub links : ranges 96 entries ≡ linkRanges v d o
   pub prefixes : v ≡ 3 → ranges 97 entries ≡ prefixRanges d o
+  pub metrics-shown : MetricsShown (metrics v d) entries
   pub lists : LsaShows v d o entries tail
-  pub ending : Ending (containers v d) (rawOrTlvs v) (unparsed v) o (o + length d) entries tail
+  pub ending : Ending (containers v d) (metrics v d) (rawOrTlvs v) (unparsed v) o (o + length d) entries tail
   pub counted : records ≡ 1
   pub longer : 0 < length strip
 
 -- An accepted header list: its strip reads as entries, laid out in the data, that show all whole headers; each
--- object holds the entries of its own header at its own place; the answer's records are their number.
+-- object holds the entries of its own header at its own place; no entry is of kind 9; the answer's records are their number.
 pub record HeadersShow (v : ℕ) (d : List ℕ) (o : ℕ) (strip : List ℕ) (records tail : ℕ) : Type 0 where
   pub entries : List Entry
   pub spans : List Span
@@ -101,6 +105,7 @@ pub record HeadersShow (v : ℕ) (d : List ℕ) (o : ℕ) (strip : List ℕ) (re
   pub laid : Laid anything o (o + length d) entries
   pub shows : Shows (FixedAt 20 d) (length d) (length d / 20) 0 o 114 112 (unparsed v) spans end tail []
       (λ s. cond (eqb v 2) (headerEntries2 (own d s) (o + s .at)) (headerEntries3 (own d s) (o + s .at))) entries
+  pub unreachable-none : (i s e : ℕ) → List·Memᴰ (unreachable i s e) entries → ⊥
   pub all-whole : tail < 20
   pub counted : records ≡ length spans
   pub objects-counted : length (ranges 112 entries) ≡ records

@@ -6,9 +6,11 @@ use mathlib.Core.Option.{Option, none, some}
 use lib.ListN.{length, getD}
 use lib.Dec.{leb, ltb, eqb}
 use Rattle.format.specs.Bytes.{be16, be32, be64, be16At, be24At, be32At, be64At}
+use Rattle.format.specs.Metric.{Metric, metricAt}
+use Rattle.format.specs.Metric.Metric.{cost, unreachable as infinite}
 
 -- Field id, start and end come first in each, and then the value. An IPv4 address is the number of its four bytes, an
--- IPv6 address the two numbers of its halves.
+-- IPv6 address the two numbers of its halves. A metric that is no cost has no value: it is unreachable.
 pub data Entry : Type 0 where
   opens : (id start end : ℕ) → Entry
   closes : Entry
@@ -18,9 +20,10 @@ pub data Entry : Type 0 where
   ip4 : (id start end address : ℕ) → Entry
   ip6 : (id start end high low : ℕ) → Entry
   bytes : (id start end : ℕ) → Entry
+  unreachable : (id start end : ℕ) → Entry
   u64 : (id start end value : ℕ) → Entry
 
--- The kinds, each the first byte of an entry. 9 is none.
+-- The kinds, each the first byte of an entry.
 abbrev pub openKind : ℕ
 openKind = 1
 
@@ -45,18 +48,24 @@ ip6Kind = 7
 abbrev pub bytesKind : ℕ
 bytesKind = 8
 
+abbrev pub unreachableKind : ℕ
+unreachableKind = 9
+
 abbrev pub u64Kind : ℕ
 u64Kind = 10
 
 abbrev pub head : ℕ → ℕ → ℕ → List ℕ
 head i s e = i ∷ (be32 s ++ be32 e)
 
--- What an entry is, whatever its kind: the start or the end of a container, a field with a value, or a range alone.
+-- What an entry is, whatever its kind: the start or the end of a container, a field with a value, a range alone, or a
+-- metric without a cost. Of a number of 32 bits, which may be the cost of a metric, it says the value.
 pub data Shape : Type 0 where
   opening : Shape
   closing : Shape
   valued : Shape
+  numbered : (value : ℕ) → Shape
   ranged : Shape
+  costless : Shape
 
 -- What an entry says. The body is what follows the kind's byte.
 pub record Content : Type 0 where
@@ -77,10 +86,11 @@ content (opens i s e) = says openKind opening i s e []
 content closes = record { kind = closeKind; shape = closing; id = 0; start = 0; end = 0; body = [] }
 content (u8 i s e v) = says u8Kind valued i s e (v ∷ [])
 content (u16 i s e v) = says u16Kind valued i s e (be16 v)
-content (u32 i s e v) = says u32Kind valued i s e (be32 v)
+content (u32 i s e v) = says u32Kind (numbered v) i s e (be32 v)
 content (ip4 i s e a) = says ip4Kind valued i s e (be32 a)
 content (ip6 i s e h l) = says ip6Kind valued i s e (be64 h ++ be64 l)
 content (bytes i s e) = says bytesKind ranged i s e []
+content (unreachable i s e) = says unreachableKind costless i s e []
 content (u64 i s e v) = says u64Kind valued i s e (be64 v)
 
 -- An entry's bytes: its kind, then a body whose length the kind fixes.
@@ -115,9 +125,13 @@ u16At i b o p = u16 i (o + p) (o + p + 2) (be16At b p)
 abbrev pub u24At : ℕ → List ℕ → ℕ → ℕ → Entry
 u24At i b o p = u32 i (o + p) (o + p + 3) (be24At b p)
 
--- A metric of 24 bits.
+-- A metric of 24 bits: a cost is shown as a number of 32.
+abbrev pub metricEntry : (id start end : ℕ) → Metric → Entry
+metricEntry i s e (cost v) = u32 i s e v
+metricEntry i s e infinite = unreachable i s e
+
 abbrev pub metric24At : ℕ → List ℕ → ℕ → ℕ → Entry
-metric24At i b o p = u32 i (o + p) (o + p + 3) (be24At b p)
+metric24At i b o p = metricEntry i (o + p) (o + p + 3) (metricAt b p)
 
 -- A number of 16 bits that is shown as one of 32: a link's TOS metric, and a count of prefixes.
 abbrev pub wide16At : ℕ → List ℕ → ℕ → ℕ → Entry
@@ -153,6 +167,7 @@ bodies =
     (ip4Kind, 13) ∷
     (ip6Kind, 25) ∷
     (bytesKind, 9) ∷
+    (unreachableKind, 9) ∷
     (u64Kind, 17) ∷
     []
 
@@ -175,7 +190,8 @@ entryOfKind k i b e s q =
     (cond (eqb k ip4Kind) (ip4 i b e (be32At s (q + 9)))
     (cond (eqb k ip6Kind) (ip6 i b e (be64At s (q + 9)) (be64At s (q + 17)))
     (cond (eqb k bytesKind) (bytes i b e)
-    (u64 i b e (be64At s (q + 9))))))))))
+    (cond (eqb k unreachableKind) (unreachable i b e)
+    (u64 i b e (be64At s (q + 9)))))))))))
 
 -- The entry of a kind whose body stands at q.
 abbrev pub entryAt : ℕ → List ℕ → ℕ → Entry

@@ -132,7 +132,7 @@ abbrev pub externalTosRows : Layout
 externalTosRows =
     row 0 (bit 0x80) 80 ∷  -- E
     row 0 (lowBits 0x80) tos ∷  -- TOS
-    row 1 metric24 tosMetric ∷  -- TOS metric
+    row 1 metric24 tosMetric ∷  -- TOS metric, of type 1 or 2 by E
     row 4 ip4 83 ∷  -- Forwarding address
     row 8 u32 84 ∷  -- External Route Tag
     []
@@ -148,7 +148,7 @@ abbrev pub externalRows : Layout
 externalRows =
     row 0 ip4 networkMask ∷  -- Network Mask
     row 4 (bit 0x80) flagE ∷  -- E
-    row 5 metric24 metric ∷  -- metric
+    row 5 metric24 metric ∷  -- metric, of type 1 or 2 by E
     row 8 ip4 21 ∷  -- Forwarding address
     row 12 u32 22 ∷  -- External Route Tag
     []

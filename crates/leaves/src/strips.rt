@@ -1,4 +1,5 @@
-// Every kind of entry, written and read back; the leaves on a body; and the end and each refusal of the step.
+// Every kind of entry, written and read back; the leaves on a body; metrics around LSInfinity; and the end and each refusal
+// of the step.
 ghost use mathlib.Core.Path.{_≡_};
 ghost use Prim.Native.Nat.{_+_, _≤_};
 ghost use lib.ListN.{length};
@@ -27,13 +28,14 @@ use strip_push::push_u32;
 use strip_push::push_u32_at;
 use strip_push::push_u64;
 use strip_push::push_u64_at;
+use strip_push::push_unreachable;
 use strip_push::push_wide16_at;
 use strip_step::Entry;
 use strip_step::Step;
 use strip_step::step_at;
 
 pub fn run() {
-    let mut strip = [0u8; 116];
+    let mut strip = [0u8; 126];
     kinds(&mut strip);
     word(b"kinds\n");
     print_strip(&strip);
@@ -42,18 +44,23 @@ pub fn run() {
     leaves(&mut fields, body);
     word(b"leaves\n");
     print_strip(&fields);
+    let mut costs = [0u8; 70];
+    metrics(&mut costs, b"\x00\xff\xff\xff\xfe\xff\xff\x00");
+    word(b"metrics\n");
+    print_strip(&costs);
     refusals();
 }
 
 // One entry of each kind, with the largest numbers, and the first of them around the others.
 fn kinds(strip: &mut [u8])
-    requires { ⌜ 116 ≤ length (now strip) ⌝ }
+    requires { ⌜ 126 ≤ length (now strip) ⌝ }
 {
     let a = begin_container(strip, 0, 255, 4294967295, 4294967295);
     let b = push_u8(strip, a, 1, 0, 1, 0, 255);
     let c = push_u16(strip, b, 2, 1, 2, 0, 65535);
     let d = push_u32(strip, c, 3, 3, 4, 0, 4294967295);
-    more_kinds(strip, d);
+    let e = push_unreachable(strip, d, 9, 7, 3, 0);
+    more_kinds(strip, e);
 }
 
 fn more_kinds(strip: &mut [u8], at: usize)
@@ -100,7 +107,19 @@ fn addresses(strip: &mut [u8], at: usize, body: &[u8])
     push_bytes_at(strip, c, 21, 5, 12, 1000);
 }
 
-// The end, and a place beyond it; kinds 0, 9 and 11; each kind's body cut by one byte.
+// Metrics of 24 bits: the first has all bits, the next three lack one of a byte each. What is left of the strip stays 0.
+fn metrics(strip: &mut [u8], body: &[u8])
+    requires { ⌜ 70 ≤ length (now strip) ⌝ }
+    requires { ⌜ length (now body) ≡ 8 ⌝ }
+{
+    let a = push_metric24_at(strip, 0, 15, body, 1, 1000);
+    let b = push_metric24_at(strip, a, 15, body, 2, 1000);
+    let c = push_metric24_at(strip, b, 15, body, 3, 1000);
+    let d = push_metric24_at(strip, c, 15, body, 4, 1000);
+    push_metric24_at(strip, d, 15, body, 5, 1000);
+}
+
+// The end, and a place beyond it; kinds 0, 11 and 255; each kind's body cut by one byte.
 fn refusals() {
     word(b"steps\n");
     print_step(b"", 0);
@@ -109,7 +128,6 @@ fn refusals() {
     print_step(b"\x02", 1);
     print_step(b"\x02", 2);
     print_step(b"\x00", 0);
-    print_step(b"\x09", 0);
     print_step(b"\x0b", 0);
     print_step(b"\xff", 0);
     print_step(b"\x01........", 0);
@@ -119,6 +137,7 @@ fn refusals() {
     print_step(b"\x06............", 0);
     print_step(b"\x07........................", 0);
     print_step(b"\x08........", 0);
+    print_step(b"\x09........", 0);
     print_step(b"\x0a................", 0);
     print_step(b"\x08\x01\x00\x00\x00\x02\x00\x00\x00\x03", 0);
 }

@@ -8,11 +8,11 @@ use lib.ListN.{length, take, length-append}
 use lib.Seq.{length-take-le}
 use lib.Dec.{eqb}
 use Rattle.format.specs.Strip.{Entry}
-use Rattle.format.specs.Strip.Entry.{opens, closes, u8, u16, u32, ip4, ip6, bytes, u64}
+use Rattle.format.specs.Strip.Entry.{opens, closes, u8, u16, u32, ip4, ip6, bytes, unreachable, u64}
 use Rattle.format.specs.Wrote.{Wrote}
 use Rattle.format.specs.Walks.{Answer}
 use Rattle.format.specs.Print.{hex, spaced, dotted, field, line, lineRoom, firstLine, newline}
-use Rattle.format.specs.Print.{openWord, u8Word, u16Word, u32Word, ip4Word, ip6Word, bytesWord, u64Word, okWord, refusedWord}
+use Rattle.format.specs.Print.{openWord, u8Word, u16Word, u32Word, ip4Word, ip6Word, bytesWord, unreachableWord, u64Word, okWord, refusedWord}
 use Rattle.format.proofs.Wrote.{kept}
 use Rattle.print_digits.proofs.Numerals.{length-spaced, length-place, length-dotted, length-hex}
 
@@ -41,8 +41,9 @@ line-fits (ip6 i s e h l) =
     let q = length-hex 16 l in
     let r = length-append (hex 16 h) (hex 16 l) in
     length-valued ip6Word i s e (32 ∷ (hex 16 h ++ hex 16 l)) (omega arith) (omega arith)
-line-fits (u64 i s e v) = length-valued u64Word i s e (spaced v) (omega arith) (let l = length-spaced v in omega arith)
 line-fits (bytes i s e) = let f = length-field bytesWord i s e (omega arith) in rw length-append (omega arith)
+line-fits (unreachable i s e) = let f = length-field unreachableWord i s e (omega arith) in rw length-append (omega arith)
+line-fits (u64 i s e v) = length-valued u64Word i s e (spaced v) (omega arith) (let l = length-spaced v in omega arith)
 
 pub first-fits : (a : Answer) → length (firstLine a) ≤ lineRoom
 unfolding firstLine

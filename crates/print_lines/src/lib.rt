@@ -87,6 +87,7 @@ fn put_line(out: &mut [u8], entry: Entry) -> usize
         Entry::Ipv4(f, address) => put_ipv4(out, f, address),
         Entry::Ipv6(f, high, low) => put_ipv6(out, f, high, low),
         Entry::Bytes(f) => put_range(out, b"bytes", f),
+        Entry::Unreachable(f) => put_range(out, b"never", f),
         Entry::U64(f, value) => put_number(out, b"u64", f, value),
     }
 }

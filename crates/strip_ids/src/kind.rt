@@ -15,6 +15,8 @@ pub const IPV6: u8 = 7;
 
 pub const BYTES: u8 = 8;
 
+pub const UNREACHABLE: u8 = 9;
+
 pub const U64: u8 = 10;
 
 // How many bytes a kind's body has: the id, start and end of every kind but a close, then the value.
@@ -34,6 +36,8 @@ pub const IPV6_BODY: usize = 25;
 
 pub const BYTES_BODY: usize = 9;
 
+pub const UNREACHABLE_BODY: usize = 9;
+
 pub const U64_BODY: usize = 17;
 
 // How many an entry has: its kind, then the body.
@@ -52,6 +56,8 @@ pub const IPV4_LENGTH: usize = 1 + IPV4_BODY;
 pub const IPV6_LENGTH: usize = 1 + IPV6_BODY;
 
 pub const BYTES_LENGTH: usize = 1 + BYTES_BODY;
+
+pub const UNREACHABLE_LENGTH: usize = 1 + UNREACHABLE_BODY;
 
 pub const U64_LENGTH: usize = 1 + U64_BODY;
 

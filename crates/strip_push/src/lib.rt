@@ -14,6 +14,7 @@ use strip_ids::kind::U8;
 use strip_ids::kind::U16;
 use strip_ids::kind::U32;
 use strip_ids::kind::U64;
+use strip_ids::kind::UNREACHABLE;
 use strip_put::put_head;
 use strip_put::put_head_at;
 use strip_put::put_u8;
@@ -21,11 +22,15 @@ use strip_put::put_u16;
 use strip_put::put_u32;
 use strip_put::put_u64;
 use tlv::prefix_to_ipv6;
+use util::Metric;
 use util::read_be_u16;
 use util::read_be_u24;
 use util::read_be_u32;
 use util::read_be_u64;
 use util::read_ipv4_addr;
+use util::read_metric24;
+
+pub mod measure;
 
 pub fn begin_container(strip: &mut [u8], at: usize, id: u8, start: u32, end: u32) -> usize
     requires { ⌜ at + 10 ≤ length (now strip) ⌝ }
@@ -146,6 +151,14 @@ pub fn push_ipv6(
     put_u64(strip, b, low)
 }
 
+pub fn push_unreachable(strip: &mut [u8], at: usize, id: u8, p: usize, n: usize, o: u32) -> usize
+    requires { ⌜ at + 10 ≤ length (now strip) ⌝ }
+    requires { ⌜ o + (p + n) < 4294967296 ⌝ }
+    ensures { λ r. ⌜ Wrote (now (strip .entry)) at (code (Entry.unreachable id (o + p) (o + p + n))) (now (strip .exit)) r ⌝ }
+{
+    put_head_at(strip, at, UNREACHABLE, id, p, n, o)
+}
+
 pub fn push_bytes(strip: &mut [u8], at: usize, id: u8, start: u32, end: u32) -> usize
     requires { ⌜ at + 10 ≤ length (now strip) ⌝ }
     ensures { λ r. ⌜ Wrote (now (strip .entry)) at (code (Entry.bytes id start end)) (now (strip .exit)) r ⌝ }
@@ -218,15 +231,19 @@ pub fn push_u24_at(strip: &mut [u8], at: usize, id: u8, body: &[u8], p: usize, o
     push_u32(strip, at, id, p, 3, o, read_be_u24(body, p))
 }
 
-// A metric of 24 bits.
+// A metric of 24 bits: its cost, or that it is unreachable.
 pub fn push_metric24_at(strip: &mut [u8], at: usize, id: u8, body: &[u8], p: usize, o: u32) -> usize
-    requires { ⌜ at + 14 ≤ length (now strip) ⌝ }
+    requires { ⌜ at + length (code (metric24At id (now body) o p)) ≤ length (now strip) ⌝ }
+    requires { ⌜ 1 ≤ p ⌝ }
     requires { ⌜ p + 3 ≤ length (now body) ⌝ }
     requires { ⌜ o + length (now body) < 4294967296 ⌝ }
     ensures { λ r. ⌜ Wrote (now (strip .entry)) at (code (metric24At id (now (body .entry)) o p)) (now (strip .exit)) r ⌝ }
 {
-    let metric = read_be_u24(body, p);
-    push_u32(strip, at, id, p, 3, o, metric)
+    let metric = read_metric24(body, p);
+    match metric {
+        Metric::Cost(cost) => push_u32(strip, at, id, p, 3, o, cost),
+        Metric::Unreachable => push_unreachable(strip, at, id, p, 3, o),
+    }
 }
 
 // A number of 16 bits that is shown as one of 32.

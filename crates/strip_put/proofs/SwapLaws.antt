@@ -5,7 +5,8 @@ use mathlib.Core.Path.{_≡_, subst}
 use mathlib.Core.List.{List, _++_}
 use Rattle.format.specs.Bytes.{be16, be32}
 use Rattle.format.specs.Wrote.{Wrote}
-use Rattle.strip_put.specs.Swap.{swap16, swap32, swap64, le16, le32, le64}
+use Rattle.strip_put.specs.Swap.{le16, le32, le64}
+use Rattle.util.specs.Swap.{swap16, swap32, swap64}
 
 -- the parts of a number made of two, of 16 and of 32 bits
 low16 : (a b : ℕ) → b < 65536 → (a * 65536 + b) % 65536 ≡ b

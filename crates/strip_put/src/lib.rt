@@ -8,9 +8,9 @@ ghost use Rattle.format.specs.Wrote.{Wrote};
 use crate::swap::put_le16;
 use crate::swap::put_le32;
 use crate::swap::put_le64;
-use crate::swap::swap_u16;
-use crate::swap::swap_u32;
-use crate::swap::swap_u64;
+use util::swap::swap_u16;
+use util::swap::swap_u32;
+use util::swap::swap_u64;
 
 mod swap;
 

@@ -2,7 +2,7 @@
 -- number that the requirements give it.
 use Prim.Native.Nat.{ℕ}
 use Rattle.format.specs.Strip as strip
-use Rattle.format.specs.Strip.Entry.{opens, closes, u8, u16, u32, ip4, ip6, bytes, u64}
+use Rattle.format.specs.Strip.Entry.{opens, closes, u8, u16, u32, ip4, ip6, bytes, unreachable, u64}
 use Rattle.format.specs.Strip.Step.{entry, end, refused}
 use Rattle.strip_step.specs.declared.Field.{Field}
 use Rattle.strip_step.specs.declared.Entry.{Entry}
@@ -22,6 +22,7 @@ entryOf (u32 i s e v) = E.U32 (fieldOf i s e) v
 entryOf (ip4 i s e a) = E.Ipv4 (fieldOf i s e) a
 entryOf (ip6 i s e h l) = E.Ipv6 (fieldOf i s e) h l
 entryOf (bytes i s e) = E.Bytes (fieldOf i s e)
+entryOf (unreachable i s e) = E.Unreachable (fieldOf i s e)
 entryOf (u64 i s e v) = E.U64 (fieldOf i s e) v
 
 -- What an entry of the code says.
@@ -34,6 +35,7 @@ entryMeaning (E.U32 f v) = u32 (f .id) (f .start) (f .end) v
 entryMeaning (E.Ipv4 f a) = ip4 (f .id) (f .start) (f .end) a
 entryMeaning (E.Ipv6 f h l) = ip6 (f .id) (f .start) (f .end) h l
 entryMeaning (E.Bytes f) = bytes (f .id) (f .start) (f .end)
+entryMeaning (E.Unreachable f) = unreachable (f .id) (f .start) (f .end)
 entryMeaning (E.U64 f v) = u64 (f .id) (f .start) (f .end) v
 
 abbrev pub stepOf : strip.Step → Step

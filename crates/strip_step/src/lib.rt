@@ -24,6 +24,8 @@ use strip_ids::kind::U32;
 use strip_ids::kind::U32_BODY;
 use strip_ids::kind::U64;
 use strip_ids::kind::U64_BODY;
+use strip_ids::kind::UNREACHABLE;
+use strip_ids::kind::UNREACHABLE_BODY;
 use util::read_be_u16;
 use util::read_be_u32;
 use util::read_be_u64;
@@ -46,6 +48,7 @@ pub enum Entry {
     Ipv4(Field, u32),
     Ipv6(Field, u64, u64),
     Bytes(Field),
+    Unreachable(Field),
     U64(Field, u64),
 }
 
@@ -133,6 +136,13 @@ fn body_at(kind: u8, strip: &[u8], q: usize) -> Step
             }
             let entry = Entry::Bytes(field_at(strip, q));
             Step::Entry(entry, q + BYTES_BODY)
+        }
+        UNREACHABLE => {
+            if left < UNREACHABLE_BODY {
+                return Step::Refused(ENTRY_CUT);
+            }
+            let entry = Entry::Unreachable(field_at(strip, q));
+            Step::Entry(entry, q + UNREACHABLE_BODY)
         }
         U64 => {
             if left < U64_BODY {

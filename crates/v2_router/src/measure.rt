@@ -1,5 +1,4 @@
-// The lengths of what `push_router_lsa` and the functions below it write, wherever the LSA lies, and of an array of TOS
-// metrics in any LSA.
+// The lengths of what `push_router_lsa` and the functions below it write, wherever the LSA lies.
 ghost use mathlib.Core.Path.{_≡_};
 ghost use mathlib.Core.List.{List, flatMap};
 ghost use Prim.Native.Nat.{ℕ, _+_, _*_, _≤_, _<_};
@@ -77,8 +76,8 @@ fn measure_link(body: &[u8], p: usize) -> usize
     LINK_LENGTH + metrics
 }
 
-// An array of TOS metrics, as many as the count and each of the same length, if there are any.
-pub fn measure_tos_metrics(count: usize, entry: usize) -> usize
+// An array of a link's TOS metrics, as many as the count and each of the same length, if there are any.
+fn measure_tos_metrics(count: usize, entry: usize) -> usize
     requires { ⌜ count < 65536 ⌝ }
     requires { ⌜ entry < 256 ⌝ }
     ensures { λ r. ⌜ ((i : ℕ) (f : Span → List Entry) (o p : ℕ) (ss : List Span) → ((s : Span) → length (encode (f s)) ≡ entry) → length ss ≡ count → r ≡ length (encode (listingIfAny i f o p ss))) ⌝ }

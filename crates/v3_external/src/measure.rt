@@ -14,16 +14,13 @@ use strip_ids::kind::IPV6_LENGTH;
 use strip_ids::kind::U8_LENGTH;
 use strip_ids::kind::U16_LENGTH;
 use strip_ids::kind::U32_LENGTH;
+use strip_push::measure::measure_metric24;
 use util::Length;
 use v3_prefix::fixed_prefix_fits;
 use v3_prefix::present;
 
-// What an external has before its optional parts: flags, and what follows them up to the prefix.
-const EXTERNAL_LENGTH: usize = 4 * U8_LENGTH
-    + U32_LENGTH
-    + 2 * U8_LENGTH
-    + U16_LENGTH
-    + IPV6_LENGTH;
+// What an external has beside its metric before its optional parts: flags, and what follows them up to the prefix.
+const EXTERNAL_LENGTH: usize = 4 * U8_LENGTH + 2 * U8_LENGTH + U16_LENGTH + IPV6_LENGTH;
 
 pub fn measure_external_lsa(body: &[u8]) -> Measured
     requires { ⌜ length (now body) < 65536 ⌝ }
@@ -37,7 +34,7 @@ pub fn measure_external_lsa(body: &[u8]) -> Measured
         return Measured::Raw;
     }
     Measured::Decoded {
-        length: EXTERNAL_LENGTH + measure_external_optional(body),
+        length: EXTERNAL_LENGTH + measure_metric24(body, 1) + measure_external_optional(body),
         consumed: end,
     }
 }

@@ -22,6 +22,7 @@ use strip_ids::kind::IPV4_LENGTH;
 use strip_ids::kind::U8_LENGTH;
 use strip_ids::kind::U16_LENGTH;
 use strip_ids::kind::U32_LENGTH;
+use strip_push::measure::measure_metric24;
 use v3_external::measure::measure_external_lsa;
 use v3_prefix_lsa::measure::OPTIONS_LENGTH;
 use v3_prefix_lsa::measure::REFERENCES_LENGTH;
@@ -34,8 +35,8 @@ const ROUTER_LENGTH: usize = E_ROUTER_LENGTH + CONTAINER_LENGTH;
 
 const LINK_LENGTH: usize = CONTAINER_LENGTH + U8_LENGTH + U16_LENGTH + 2 * U32_LENGTH + IPV4_LENGTH;
 
-// What an Inter-Area-Router-LSA has, and an E-Router-LSA and an E-Link-LSA before their TLVs.
-const INTER_AREA_ROUTER_LENGTH: usize = OPTIONS_LENGTH + U32_LENGTH + IPV4_LENGTH;
+// What an Inter-Area-Router-LSA has beside its metric, and an E-Router-LSA and an E-Link-LSA before their TLVs.
+const INTER_AREA_ROUTER_LENGTH: usize = OPTIONS_LENGTH + IPV4_LENGTH;
 
 const E_ROUTER_LENGTH: usize = ROUTER_FLAGS_LENGTH + OPTIONS_LENGTH;
 
@@ -133,7 +134,7 @@ fn measure_inter_area_router_lsa(body: &[u8]) -> Measured
         return Measured::Raw;
     }
     Measured::Decoded {
-        length: INTER_AREA_ROUTER_LENGTH,
+        length: INTER_AREA_ROUTER_LENGTH + measure_metric24(body, 5),
         consumed: 12,
     }
 }

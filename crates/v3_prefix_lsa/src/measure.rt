@@ -10,14 +10,16 @@ use strip_ids::kind::IPV6_LENGTH;
 use strip_ids::kind::U8_LENGTH;
 use strip_ids::kind::U16_LENGTH;
 use strip_ids::kind::U32_LENGTH;
+use strip_push::measure::measure_metric24;
 use util::Length;
 use util::read_be_u16;
 use util::read_be_u32;
 use v3_prefix::fixed_prefix_fits;
 use v3_prefix::measure::measure_prefixes;
 
-// What an Inter-Area-Prefix-LSA has, a Link-LSA before its prefixes, and an Intra-Area-Prefix-LSA before them.
-const INTER_AREA_PREFIX_LENGTH: usize = U32_LENGTH + 2 * U8_LENGTH + IPV6_LENGTH;
+// What an Inter-Area-Prefix-LSA has beside its metric, a Link-LSA before its prefixes, and an Intra-Area-Prefix-LSA before
+// them.
+const INTER_AREA_PREFIX_LENGTH: usize = 2 * U8_LENGTH + IPV6_LENGTH;
 
 const LINK_LENGTH: usize = U8_LENGTH + OPTIONS_LENGTH + IPV6_LENGTH + U32_LENGTH;
 
@@ -36,7 +38,7 @@ pub fn measure_inter_area_prefix_lsa(body: &[u8]) -> Measured
         return Measured::Raw;
     };
     Measured::Decoded {
-        length: INTER_AREA_PREFIX_LENGTH,
+        length: INTER_AREA_PREFIX_LENGTH + measure_metric24(body, 1),
         consumed: 8 + n,
     }
 }

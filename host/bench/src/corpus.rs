@@ -8,7 +8,8 @@ use oracle::Walk;
 /// OSPF header.
 const OFFSET: u64 = 14 + 20 + 24;
 
-/// A kind of message.
+/// A kind of message. A new one goes last, since its place here is part of the
+/// seed of its contents.
 #[derive(Clone, Copy, Debug, PartialEq, Eq)]
 pub enum Kind {
     RouterV2,
@@ -20,15 +21,23 @@ pub enum Kind {
     HeadersV2,
     HeadersV3,
     Captures,
+    SummaryTosV2,
+    ExternalTosV2,
+    InterAreaPrefixV3,
+    ExternalV3,
 }
 
 /// All kinds, in the order in which they are printed.
-pub const KINDS: [Kind; 9] = [
+pub const KINDS: [Kind; 13] = [
     Kind::RouterV2,
     Kind::RouterTosV2,
     Kind::SummaryV2,
+    Kind::SummaryTosV2,
     Kind::ExternalV2,
+    Kind::ExternalTosV2,
     Kind::RouterV3,
+    Kind::InterAreaPrefixV3,
+    Kind::ExternalV3,
     Kind::IntraAreaPrefixV3,
     Kind::HeadersV2,
     Kind::HeadersV3,
@@ -42,8 +51,12 @@ impl Kind {
             Kind::RouterV2 => "v2 router LSAs",
             Kind::RouterTosV2 => "v2 router LSAs with TOS",
             Kind::SummaryV2 => "v2 summary LSAs",
+            Kind::SummaryTosV2 => "v2 summary LSAs with TOS",
             Kind::ExternalV2 => "v2 external LSAs",
+            Kind::ExternalTosV2 => "v2 external LSAs with TOS",
             Kind::RouterV3 => "v3 router LSAs",
+            Kind::InterAreaPrefixV3 => "v3 inter-area-prefix LSAs",
+            Kind::ExternalV3 => "v3 external LSAs",
             Kind::IntraAreaPrefixV3 => "v3 intra-area-prefix LSAs",
             Kind::HeadersV2 => "v2 header list",
             Kind::HeadersV3 => "v3 header list",
@@ -71,7 +84,11 @@ impl Kind {
 
     fn version(self) -> u8 {
         match self {
-            Kind::RouterV3 | Kind::IntraAreaPrefixV3 | Kind::HeadersV3 => 3,
+            Kind::RouterV3
+            | Kind::InterAreaPrefixV3
+            | Kind::ExternalV3
+            | Kind::IntraAreaPrefixV3
+            | Kind::HeadersV3 => 3,
             _ => 2,
         }
     }
@@ -111,11 +128,15 @@ impl Kind {
                 router_v2(rng, links, &[0, 1, 2, 4])
             }
             Kind::SummaryV2 => rng.bytes(8),
+            Kind::SummaryTosV2 => with_tos(rng, 8, 4),
             Kind::ExternalV2 => rng.bytes(16),
+            Kind::ExternalTosV2 => with_tos(rng, 16, 12),
             Kind::RouterV3 => {
                 let links = 2 + rng.below(30);
                 rng.bytes(4 + 16 * links)
             }
+            Kind::InterAreaPrefixV3 => inter_area_prefix(rng),
+            Kind::ExternalV3 => external_v3(rng),
             _ => {
                 let prefixes = 2 + rng.below(30);
                 intra_area_prefix(rng, prefixes)
@@ -123,9 +144,11 @@ impl Kind {
         };
         let ls_type = match self {
             Kind::RouterV2 | Kind::RouterTosV2 => 1,
-            Kind::SummaryV2 => 3,
-            Kind::ExternalV2 => 5,
+            Kind::SummaryV2 | Kind::SummaryTosV2 => 3,
+            Kind::ExternalV2 | Kind::ExternalTosV2 => 5,
             Kind::RouterV3 => 0x2001,
+            Kind::InterAreaPrefixV3 => 0x2003,
+            Kind::ExternalV3 => 0x4005,
             _ => 0x2009,
         };
         lsa(rng, self.version(), ls_type, &body)
@@ -164,22 +187,61 @@ fn router_v2(rng: &mut Rng, links: usize, tos: &[u8]) -> Vec<u8> {
     body
 }
 
+/// A version 2 route of `fixed` bytes and two to eight TOS entries of `each`.
+/// Both have their metric in the last three bytes of a word.
+fn with_tos(rng: &mut Rng, fixed: usize, each: usize) -> Vec<u8> {
+    let tos = 2 + rng.below(7);
+    let mut body = rng.bytes(fixed + each * tos);
+    some_unreachable(rng, &mut body[4..8]);
+    for entry in body[fixed..].chunks_exact_mut(each) {
+        some_unreachable(rng, &mut entry[..4]);
+    }
+    body
+}
+
+/// Makes the metric in this word unreachable, one time in eight.
+fn some_unreachable(rng: &mut Rng, word: &mut [u8]) {
+    if rng.below(8) == 0 {
+        word[1..].fill(0xFF);
+    }
+}
+
 /// Prefixes mostly of 64 bits, as on links, some of other lengths.
+const PREFIX_LENGTHS: [u8; 10] = [64, 64, 64, 64, 128, 128, 56, 48, 32, 0];
+
 fn intra_area_prefix(rng: &mut Rng, prefixes: usize) -> Vec<u8> {
     let mut body = rng.bytes(12);
     body[..2].copy_from_slice(&(prefixes as u16).to_be_bytes());
     for _ in 0..prefixes {
-        let length = rng.pick(&[64, 64, 64, 64, 128, 128, 56, 48, 32, 0]);
-        body.extend(prefix(rng, length));
+        body.extend(prefix(rng));
     }
     body
 }
 
 /// An entry of a prefix list.
-fn prefix(rng: &mut Rng, length: u8) -> Vec<u8> {
+fn prefix(rng: &mut Rng) -> Vec<u8> {
+    let length = rng.pick(&PREFIX_LENGTHS);
     let mut entry = rng.bytes(4 + usize::from(length).div_ceil(32) * 4);
     entry[0] = length;
     entry
+}
+
+/// A version 3 route: a word with the metric, then the prefix.
+fn inter_area_prefix(rng: &mut Rng) -> Vec<u8> {
+    let mut body = rng.bytes(4);
+    some_unreachable(rng, &mut body);
+    body.extend(prefix(rng));
+    body
+}
+
+/// The same with what its flags ask for; no other LSA is referenced.
+fn external_v3(rng: &mut Rng) -> Vec<u8> {
+    let mut body = inter_area_prefix(rng);
+    body[6..8].fill(0);
+    let forwarding = if body[0] & 2 != 0 { 16 } else { 0 };
+    let tag = if body[0] & 1 != 0 { 4 } else { 0 };
+    body.extend(rng.bytes(forwarding + tag));
+    body
 }
 
 /// Blocks by row: what it is called, the reading, the length of the data and the

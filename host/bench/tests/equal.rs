@@ -2,8 +2,8 @@
 //! strips, and the hand-written checksums those of the second implementation.
 
 use bench::careful::checksum::{CAREFUL as WORDS, PLAIN};
-use bench::corpus::{BLOCKS, KINDS, blocks, worst};
-use bench::{CAREFUL, PORT};
+use bench::corpus::{BLOCKS, KINDS, Kind, blocks, worst};
+use bench::{CAREFUL, PORT, walked};
 use inputs::{CLASSES, Input};
 
 /// How much longer than needed the larger buffer is.
@@ -31,6 +31,34 @@ fn on_the_corpus() {
     }
     for worst in worst() {
         check(&worst.input);
+    }
+}
+
+/// About one of eight metrics is unreachable in the rows that are made for it,
+/// and none in the others.
+#[test]
+fn unreachable_in_the_corpus() {
+    for kind in KINDS.into_iter().filter(|&kind| kind != Kind::Captures) {
+        let (mut metrics, mut unreachable) = (0, 0);
+        for input in kind.inputs(65_535) {
+            let mut strip = vec![0; PORT.run(&input, &mut []) as u32 as usize];
+            for entry in walked(&input, &mut strip).entries() {
+                metrics += usize::from(entry.name() == Some("metric"));
+                unreachable += usize::from(entry.is_unreachable());
+            }
+        }
+        let expected = match kind {
+            Kind::SummaryTosV2
+            | Kind::ExternalTosV2
+            | Kind::InterAreaPrefixV3
+            | Kind::ExternalV3 => metrics / 10..=metrics / 6,
+            _ => 0..=0,
+        };
+        let name = kind.name();
+        assert!(
+            expected.contains(&unreachable),
+            "{name}: {unreachable} of {metrics}"
+        );
     }
 }
 

@@ -52,7 +52,10 @@ pub fn generated() -> String {
     let bodies = kinds.map(|(_, word, n)| (format!("OSPF_BODY_{}", constant(word)), n));
     let both = BOTH.map(|(id, name)| (format!("OSPF_ID_{name}"), id.into()));
     [
-        enumeration("What an entry is: the first byte of each.", numbers),
+        enumeration(
+            "What an entry is: the first byte of each. OSPF_KIND_UNREACHABLE is a 24-bit metric of all ones.",
+            numbers,
+        ),
         enumeration(
             "How many bytes follow it: id, start and end of every kind but a close, then the value.",
             bodies,
@@ -126,11 +129,13 @@ fn enumerator(version: Version, id: u8, name: &str) -> String {
     format!("OSPF_V{version}_{whose}{}", constant(name))
 }
 
-/// A word as a constant's name; IPv4 and IPv6 are `ip4` and `ip6` in listings.
+/// A word as a constant's name; IPv4, IPv6 and unreachable are `ip4`, `ip6` and
+/// `never` in listings.
 fn constant(word: &str) -> String {
     match word {
         "ip4" => "IPV4".to_string(),
         "ip6" => "IPV6".to_string(),
+        "never" => "UNREACHABLE".to_string(),
         _ => word.to_uppercase(),
     }
 }

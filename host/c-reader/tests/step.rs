@@ -134,7 +134,7 @@ fn whole_strips() {
             let entries = entries.chain((0..closes).map(|_| self::listed(2, 0, 0, 0).1));
             let entries: Vec<Entry> = entries.collect();
             check_whole(&strip, &entries, 0);
-            strip.push(9);
+            strip.push(11);
             check_whole(&strip, &entries, 7);
         }
     }

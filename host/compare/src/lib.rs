@@ -5,13 +5,15 @@
 //! Compared are the packed answer and every byte of the buffer, and of a margin
 //! on both sides of it: nothing may be written on a refusal or for an absent
 //! block, nothing past the strip, nothing outside the buffer. Records and tail
-//! are not in the packed answer; the stored samples have them.
+//! are not in the packed answer; the stored samples have them. Where the reference
+//! has LSInfinity as a number, the oracle's strip says unreachable
+//! (`oracle::unreachable`).
 
 use std::collections::BTreeMap;
 use std::fmt;
 
-use inputs::{Class, Input, Take};
-use oracle::Walk;
+use inputs::{Class, Input, Places, Take};
+use oracle::{Outcome, Walk};
 use ospf_strip::exports;
 
 /// The walks and readings to compare, in the shapes of the static library's exports.
@@ -87,24 +89,37 @@ impl fmt::Display for Difference {
     }
 }
 
-/// Inputs and calls compared, by class.
-pub type Counts = BTreeMap<Class, (u64, u64)>;
+/// What was compared: inputs and calls by class, and the values of all ones in
+/// the strips, by place.
+#[derive(Debug, Default)]
+pub struct Counts {
+    pub classes: BTreeMap<Class, (u64, u64)>,
+    pub places: Places,
+}
 
 /// Compares the walks on one input, with each buffer.
 pub struct Comparison {
     walks: Walks,
     calls: u64,
+    places: Places,
 }
 
 impl Comparison {
     /// Compares these walks.
     pub fn of(walks: Walks) -> Comparison {
-        Comparison { walks, calls: 0 }
+        Comparison {
+            walks,
+            calls: 0,
+            places: Places::default(),
+        }
     }
 
     /// The first difference on this input, if there is one.
     pub fn input(&mut self, input: &Input) -> Option<Difference> {
         let outcome = input.call().run();
+        if let (false, Outcome::Accepted { strip, .. }) = (input.walk.is_block(), &outcome) {
+            self.places.count(input.version, strip);
+        }
         let needed = outcome.answer(usize::MAX).length as usize;
         let mut rooms = vec![0, needed.saturating_sub(1), needed, needed + MORE];
         rooms.dedup();
@@ -146,7 +161,7 @@ pub fn compare(
     seed: u64,
     rounds: u32,
 ) -> Result<Counts, Box<Difference>> {
-    let mut counts = Counts::new();
+    let mut counts = Counts::default();
     for &class in classes {
         let mut comparison = Comparison::of(walks);
         let mut inputs = 0;
@@ -161,7 +176,8 @@ pub fn compare(
         if let Some(difference) = smallest {
             return Err(Box::new(difference));
         }
-        counts.insert(class, (inputs, comparison.calls));
+        counts.classes.insert(class, (inputs, comparison.calls));
+        counts.places.add(&comparison.places);
     }
     Ok(counts)
 }

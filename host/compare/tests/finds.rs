@@ -2,7 +2,8 @@
 //! readings of blocks, and each of several wrong ones is found.
 
 use compare::{Comparison, Difference, Walks, compare};
-use inputs::{CLASSES, Class, Input};
+use inputs::{CLASSES, Class, Input, Places};
+use oracle::unreachable::as_number;
 use oracle::{Answer, Call, Outcome, Walk};
 
 const SEED: u64 = 7;
@@ -50,7 +51,7 @@ macro_rules! walks {
 
 /// Where each entry of a strip starts.
 fn places(strip: &[u8]) -> Vec<usize> {
-    let lengths = [0, 10, 1, 11, 12, 14, 14, 26, 10, 0, 18];
+    let lengths = [0, 10, 1, 11, 12, 14, 14, 26, 10, 10, 18];
     let mut places = Vec::new();
     let mut at = 0;
     while at < strip.len() {
@@ -104,6 +105,111 @@ fn tag_before_forwarding_address(call: &Call<'_>, strip: &mut [u8]) {
             strip[tag + 10..tag + 14].copy_from_slice(&call.data[place..place + 4]);
         }
     }
+}
+
+/// The oracle with each entry of its strip as another says; the length may
+/// change.
+fn by_entry(call: Call<'_>, strip: &mut [u8], other: fn(&[u8]) -> Vec<u8>) -> u64 {
+    let mut outcome = call.run();
+    if let Outcome::Accepted { strip, .. } = &mut outcome {
+        let starts = places(strip);
+        let ends = starts.iter().skip(1).copied().chain([strip.len()]);
+        let entries = starts.iter().zip(ends).map(|(&at, end)| &strip[at..end]);
+        *strip = entries.flat_map(other).collect();
+    }
+    outcome.lend(strip).packed()
+}
+
+/// Walks with each entry of their strips as `$other` says.
+macro_rules! by_entry {
+    ($other:expr) => {
+        walks!(|call, strip: &mut [u8]| by_entry(call, strip, $other))
+    };
+}
+
+/// How many bytes an entry's range has.
+fn width(entry: &[u8]) -> u32 {
+    number(entry, 6) - number(entry, 2)
+}
+
+/// An entry without its value, which says unreachable.
+fn unreachable(entry: &[u8]) -> Vec<u8> {
+    [&[9], &entry[1..10]].concat()
+}
+
+fn opaque_id_as_unreachable(entry: &[u8]) -> Vec<u8> {
+    match entry {
+        [5, 9, .., 0, 0xFF, 0xFF, 0xFF] => unreachable(entry),
+        _ => entry.to_vec(),
+    }
+}
+
+fn options_as_unreachable(entry: &[u8]) -> Vec<u8> {
+    match entry {
+        [5, 14, .., 0, 0xFF, 0xFF, 0xFF] => unreachable(entry),
+        _ => entry.to_vec(),
+    }
+}
+
+/// The tag of an external LSA of either version, and of a TOS entry.
+fn tag_as_unreachable(entry: &[u8]) -> Vec<u8> {
+    match entry {
+        [5, 22 | 24 | 84, .., 0, 0xFF, 0xFF, 0xFF] => unreachable(entry),
+        _ => entry.to_vec(),
+    }
+}
+
+fn link_tos_metric_as_unreachable(entry: &[u8]) -> Vec<u8> {
+    match entry {
+        [5, 82, .., 0, 0, 0xFF, 0xFF] if width(entry) == 2 => unreachable(entry),
+        _ => entry.to_vec(),
+    }
+}
+
+/// The metric of a link of either version, and of a prefix.
+fn metric_of_16_bits_as_unreachable(entry: &[u8]) -> Vec<u8> {
+    match entry {
+        [4, 65 | 68 | 82, .., 0xFF, 0xFF] => unreachable(entry),
+        _ => entry.to_vec(),
+    }
+}
+
+/// One bit of the 24 not looked at; 16,777,214 lacks bit 0.
+fn one_bit_less_as_unreachable<const BIT: u32>(entry: &[u8]) -> Vec<u8> {
+    match entry {
+        [5, 17 | 19 | 82, ..] if number(entry, 10) == 0xFF_FFFF ^ 1 << BIT => unreachable(entry),
+        _ => entry.to_vec(),
+    }
+}
+
+fn tos_metric_as_a_number(entry: &[u8]) -> Vec<u8> {
+    match entry {
+        [9, 82, ..] => as_number(entry),
+        _ => entry.to_vec(),
+    }
+}
+
+fn unreachable_a_byte_short(entry: &[u8]) -> Vec<u8> {
+    let mut entry = entry.to_vec();
+    if entry[0] == 9 {
+        let end = number(&entry, 6);
+        put(&mut entry, 6, end - 1);
+    }
+    entry
+}
+
+/// The right strip, measured with four bytes too many for each value that is not
+/// there.
+fn unreachable_measured_as_a_number(call: Call<'_>, strip: &mut [u8]) -> u64 {
+    let outcome = call.run();
+    if let Outcome::Accepted { strip: whole, .. } = &outcome {
+        let values = places(whole).into_iter().filter(|&at| whole[at] == 9);
+        let needed = whole.len() + 4 * values.count();
+        if strip.len() < needed {
+            return 5 << 32 | needed as u64;
+        }
+    }
+    outcome.lend(strip).packed()
 }
 
 /// Refusal 5 with the right answer, and the strip's front in the buffer.
@@ -247,8 +353,9 @@ fn the_oracle_does_not_differ_from_itself() {
     let same = walks!(|call: Call<'_>, strip: &mut [u8]| call.run().lend(strip).packed());
     let classes = [&CLASSES[..], &[Class::Captured]].concat();
     let counts = compare(same, &classes, SEED, 100).unwrap_or_else(|d| panic!("{d}"));
-    assert_eq!(counts.len(), classes.len());
-    for (class, (inputs, calls)) in counts {
+    assert_eq!(counts.places.seen(), Places::all());
+    assert_eq!(counts.classes.len(), classes.len());
+    for (class, (inputs, calls)) in counts.classes {
         assert!(
             inputs >= 20 && calls >= inputs,
             "{class:?}: {inputs}, {calls}"
@@ -308,6 +415,89 @@ fn finds_a_refusal_too_early() {
     let found = find(walks!(refusal_3_too_early), Class::Offset);
     assert_eq!(found.input.offset, 4_294_901_760);
     assert_eq!(found.found, 0x03_0000_0000);
+}
+
+/// Where the difference is in the length needed: the version, the least data,
+/// and the lengths expected and found.
+fn lengths(found: &Difference) -> (u8, usize, u32, u32) {
+    assert_eq!((found.expected >> 32, found.found >> 32), (5, 5));
+    let Input { version, data, .. } = &found.input;
+    (
+        *version,
+        data.len(),
+        found.expected as u32,
+        found.found as u32,
+    )
+}
+
+/// A value that is missing makes the strip shorter: by four bytes, or by two.
+#[test]
+fn finds_numbers_as_unreachable() {
+    // A container's open and close, and the fields around the number.
+    let header_list = 11 + 11 + 100 + 11 + 14;
+    let router_v3 = 90 + 5 * 11 + 14 + 11;
+    let external_v2 = 100 + 14 + 11 + 14 + 14 + 14;
+    let router_v2 = 100 + 5 * 11 + 12 + 11 + 11 + 14 + 14 + 11 + 11 + 12;
+    let tos_entry = 11 + 11 + 11 + 14;
+    let wrong = [
+        (by_entry!(opaque_id_as_unreachable), (2, 20, header_list), 4),
+        (by_entry!(options_as_unreachable), (3, 24, router_v3), 4),
+        (by_entry!(tag_as_unreachable), (2, 36, external_v2), 4),
+        (
+            by_entry!(link_tos_metric_as_unreachable),
+            (2, 40, router_v2 + tos_entry),
+            4,
+        ),
+        (
+            by_entry!(metric_of_16_bits_as_unreachable),
+            (2, 36, router_v2),
+            2,
+        ),
+    ];
+    for (wrong, (version, least, expected), less) in wrong {
+        let found = find(wrong, Class::Unreachable);
+        assert_eq!(lengths(&found), (version, least, expected, expected - less));
+    }
+}
+
+/// The fixed part of a summary: a header, a mask and a metric of kind 9.
+const SUMMARY: u32 = 100 + 14 + 10;
+
+#[test]
+fn finds_a_cost_as_unreachable() {
+    let wrong = [
+        by_entry!(one_bit_less_as_unreachable::<0>),
+        by_entry!(one_bit_less_as_unreachable::<8>),
+        by_entry!(one_bit_less_as_unreachable::<16>),
+    ];
+    for wrong in wrong {
+        let found = find(wrong, Class::Unreachable);
+        assert_eq!(lengths(&found), (2, 28, SUMMARY + 4, SUMMARY));
+    }
+}
+
+#[test]
+fn finds_a_tos_metric_as_a_number() {
+    let found = find(by_entry!(tos_metric_as_a_number), Class::Unreachable);
+    let (version, least, expected, wrong) = lengths(&found);
+    // One TOS entry.
+    assert_eq!((version, least, wrong), (2, 32, expected + 4));
+}
+
+#[test]
+fn finds_unreachable_a_byte_short() {
+    let found = find(by_entry!(unreachable_a_byte_short), Class::Unreachable);
+    assert_eq!(
+        (found.expected, found.found),
+        (SUMMARY.into(), SUMMARY.into())
+    );
+    assert_eq!(found.byte.map(|(at, ..)| at), Some(SUMMARY as isize - 1));
+}
+
+#[test]
+fn finds_unreachable_measured_as_a_number() {
+    let found = find(walks!(unreachable_measured_as_a_number), Class::Unreachable);
+    assert_eq!(lengths(&found), (2, 28, SUMMARY, SUMMARY + 4));
 }
 
 /// The least data of a difference: the reading, and how many bytes.

@@ -14,6 +14,8 @@ include!(concat!(env!("OUT_DIR"), "/points.rs"));
 mod ids;
 #[path = "../../oracle/src/strip.rs"]
 mod strip;
+#[path = "../../oracle/src/unreachable.rs"]
+pub mod unreachable;
 #[path = "../../oracle/src/walks.rs"]
 mod walks;
 

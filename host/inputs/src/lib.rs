@@ -7,6 +7,8 @@
 mod blocks;
 mod edges;
 mod lsa;
+mod ones;
+mod places;
 mod random;
 mod rng;
 mod sweeps;
@@ -16,6 +18,7 @@ use std::collections::BTreeMap;
 pub use blocks::with_length_field;
 pub use lsa::{V2_TYPES, V3_FUNCTIONS, lsa, structured, update};
 use oracle::{Call, Walk};
+pub use places::{Place, Places};
 pub use rng::Rng;
 
 /// The largest offset that no walk turns down.
@@ -56,12 +59,14 @@ pub enum Class {
     Block,
     /// Every length field of a block, and each around the data's length.
     BlockLength,
+    /// Metrics and other values of all ones, and nearly so.
+    Unreachable,
     /// Taken from captures; not made here.
     Captured,
 }
 
 /// The classes made here, in the order in which [`each`] hands them out.
-pub const CLASSES: [Class; 16] = [
+pub const CLASSES: [Class; 17] = [
     Class::Short,
     Class::Type,
     Class::Tos,
@@ -78,6 +83,7 @@ pub const CLASSES: [Class; 16] = [
     Class::Random,
     Class::Block,
     Class::BlockLength,
+    Class::Unreachable,
 ];
 
 /// One call, with its own data.
@@ -129,6 +135,7 @@ pub fn of_class(class: Class, seed: u64, rounds: u32, take: &mut Take<'_>) {
         Class::Random => random::random(rng, rounds, take),
         Class::Block => blocks::block(rng, rounds, take),
         Class::BlockLength => blocks::block_length(rng, take),
+        Class::Unreachable => ones::unreachable(rng, take),
         Class::Captured => {}
     }
 }

@@ -1,7 +1,7 @@
 //! Builders of well-formed LSAs (RFC 2328 A.4, RFC 5340 A.4) with random
 //! contents, and of updates made of them.
 
-use crate::Rng;
+use crate::{Rng, ones};
 
 /// LS types of version 2 that have a body of their own, and two that have not.
 pub const V2_TYPES: [u16; 11] = [1, 2, 3, 4, 5, 6, 7, 8, 9, 10, 11];
@@ -12,7 +12,7 @@ pub const V3_FUNCTIONS: [u16; 24] = [
 ];
 
 /// Opaque types that hand over TLVs, and one that does not.
-const OPAQUE_TYPES: [u8; 5] = [1, 4, 7, 8, 3];
+pub const OPAQUE_TYPES: [u8; 5] = [1, 4, 7, 8, 3];
 
 /// An LSA with a random header, this type and body, and its true length.
 pub fn lsa(rng: &mut Rng, version: u8, ls_type: u16, body: &[u8]) -> Vec<u8> {
@@ -39,7 +39,7 @@ pub fn structured(rng: &mut Rng, version: u8) -> Vec<u8> {
 }
 
 /// A well-formed LSA of this LS type or function; version 3 scope bits are
-/// random.
+/// random, and values may be all ones.
 pub fn structured_of(rng: &mut Rng, version: u8, ls_type: u16) -> Vec<u8> {
     let mut body = match version {
         2 => v2_body(rng, ls_type),
@@ -58,6 +58,7 @@ pub fn structured_of(rng: &mut Rng, version: u8, ls_type: u16) -> Vec<u8> {
     if version == 2 && (9..=11).contains(&ls_type) {
         lsa[4] = rng.pick(&OPAQUE_TYPES);
     }
+    ones::some(version, ls_type, &mut lsa);
     lsa
 }
 

@@ -9,9 +9,9 @@ use crate::lsa::{
 use crate::{Class, Input, Rng, Take, V3_FUNCTIONS};
 
 /// Body lengths tried around one that is just enough.
-const AROUND: [isize; 4] = [-1, 0, 1, 5];
+pub const AROUND: [isize; 4] = [-1, 0, 1, 5];
 
-fn single(class: Class, version: u8, data: Vec<u8>, offset: u64) -> Input {
+pub fn single(class: Class, version: u8, data: Vec<u8>, offset: u64) -> Input {
     Input {
         class,
         version,
@@ -23,7 +23,7 @@ fn single(class: Class, version: u8, data: Vec<u8>, offset: u64) -> Input {
 }
 
 /// The body made `by` bytes longer or shorter.
-fn resized(rng: &mut Rng, body: &[u8], by: isize) -> Vec<u8> {
+pub fn resized(rng: &mut Rng, body: &[u8], by: isize) -> Vec<u8> {
     let mut body = body.to_vec();
     if by < 0 {
         body.truncate(body.len().saturating_add_signed(by));

@@ -1,8 +1,10 @@
 //! What the classes promise is there, and the same seed gives the same.
 
-use std::collections::BTreeSet;
+use std::collections::{BTreeMap, BTreeSet};
+use std::fs;
+use std::path::Path;
 
-use inputs::{CLASSES, Class, Input, MOST_OFFSET, counts, of_class};
+use inputs::{CLASSES, Class, Input, MOST_OFFSET, Places, counts, of_class};
 use oracle::{Call, Outcome, Walk};
 
 fn all(class: Class, seed: u64) -> Vec<Input> {
@@ -39,6 +41,7 @@ fn counts_by_class() {
         (Class::Random, 40_000),
         (Class::Block, 18_000),
         (Class::BlockLength, 147_298),
+        (Class::Unreachable, 24_609),
     ];
     assert_eq!(counts(1, 1_000), expected.into_iter().collect());
 }
@@ -245,5 +248,95 @@ fn bytes_after_a_block() {
             });
         let (followed, alone): (Vec<bool>, Vec<bool>) = blocks.partition(|&after| after);
         assert!(followed.len() > 3 && alone.len() > 2, "{walk:?}");
+    }
+}
+
+/// The rounds and the seed with which host/test runs the comparison.
+fn rounds_and_seed() -> (u32, u64) {
+    let script = Path::new(env!("CARGO_MANIFEST_DIR")).join("../test");
+    let script = fs::read_to_string(script).expect("host/test");
+    let (_, arguments) = script.split_once("-p compare -- ").expect("the comparison");
+    let mut numbers = arguments.split(|c: char| !c.is_ascii_digit());
+    let mut number = || numbers.next()?.parse().ok();
+    (number().expect("rounds") as u32, number().expect("a seed"))
+}
+
+/// The places at which the inputs of a class that pass have values of all ones.
+fn places(class: Class, pass: fn(&Input) -> bool) -> Places {
+    let mut places = Places::default();
+    let (rounds, seed) = rounds_and_seed();
+    of_class(class, seed, rounds, &mut |input| {
+        if let (true, Outcome::Accepted { strip, .. }) = (pass(&input), input.call().run()) {
+            places.count(input.version, &strip);
+        }
+    });
+    println!("{class:?}\n{places}");
+    places
+}
+
+/// Each place has values of all ones, in single LSAs and in updates, in the class
+/// made for them and in one that grows; and no other place has any.
+#[test]
+fn all_ones_at_every_place() {
+    for class in [Class::Unreachable, Class::Structured] {
+        for walk in [Walk::Lsa, Walk::Update] {
+            let pass: fn(&Input) -> bool = match walk {
+                Walk::Lsa => |input| input.walk == Walk::Lsa,
+                _ => |input| input.walk == Walk::Update,
+            };
+            assert_eq!(
+                places(class, pass).seen(),
+                Places::all(),
+                "{class:?} {walk:?}"
+            );
+        }
+    }
+}
+
+/// Each 24-bit metric has each number that differs from all ones in one bit.
+#[test]
+fn each_bit_of_a_metric() {
+    let mut seen: BTreeMap<(u8, u8, u8), BTreeSet<u32>> = BTreeMap::new();
+    for input in all(Class::Unreachable, 1) {
+        let (Walk::Lsa, Outcome::Accepted { strip, .. }) = (input.walk, input.call().run()) else {
+            continue;
+        };
+        let mut rest = &strip[..];
+        while let [kind, ..] = rest {
+            let (_, body) = listing::kind(*kind).expect("a kind");
+            let (entry, after) = rest.split_at(1 + body);
+            if let &[
+                5,
+                id @ (17 | 19 | 82),
+                _,
+                _,
+                _,
+                start,
+                _,
+                _,
+                _,
+                end,
+                0,
+                a,
+                b,
+                c,
+            ] = entry
+                && end.wrapping_sub(start) == 3
+            {
+                let place = (input.version, input.data[3], id);
+                let number = u32::from_be_bytes([0, a, b, c]);
+                seen.entry(place).or_default().insert(number);
+            }
+            rest = after;
+        }
+    }
+    let v2 = [3, 4, 5, 7].map(|ls_type| [(2, ls_type, 19), (2, ls_type, 82)]);
+    let v3 = [3, 4, 5, 7].map(|function| (3, function, 17));
+    let places: Vec<_> = v2.concat().into_iter().chain(v3).collect();
+    assert!(seen.keys().eq(&places), "{:?}", seen.keys());
+    for (place, numbers) in seen {
+        let nearly = |bit: u32| numbers.contains(&(0xFF_FFFF ^ 1 << bit));
+        assert!((0..24).all(nearly), "{place:?}");
+        assert!(numbers.contains(&0) && !numbers.contains(&0xFF_FFFF));
     }
 }

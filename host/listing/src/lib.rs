@@ -8,10 +8,11 @@
 //! assert_eq!(listing::strip("u16 6 16 18 4660"), listing::hex("04 06 00000010 00000012 1234"));
 //! let most = listing::strip("u64 147 8 16 18446744073709551615");
 //! assert_eq!(most, listing::hex("0A 93 00000008 00000010 FFFFFFFFFFFFFFFF"));
+//! assert_eq!(listing::strip("never 19 25 28"), listing::hex("09 13 00000019 0000001C"));
 //! ```
 
 /// The kinds: the number of each, its word, and how many bytes its body has.
-pub const KINDS: [(u8, &str, usize); 9] = [
+pub const KINDS: [(u8, &str, usize); 10] = [
     (1, "open", 9),
     (2, "close", 0),
     (3, "u8", 10),
@@ -20,6 +21,7 @@ pub const KINDS: [(u8, &str, usize); 9] = [
     (6, "ip4", 13),
     (7, "ip6", 25),
     (8, "bytes", 9),
+    (9, "never", 9),
     (10, "u64", 17),
 ];
 

@@ -3,6 +3,7 @@
 
 use std::panic::{AssertUnwindSafe, catch_unwind};
 
+use packet_dissector_core::field::FieldValue;
 use packet_dissector_core::packet::{DissectBuffer, Event};
 
 use crate::ids::{FD_LLS, FD_OUTER};
@@ -93,6 +94,23 @@ fn tlvs_are_one_range() {
     let range = [8, 24, 0, 0, 0, 20, 0, 0, 0, 31];
     assert_eq!(strip[strip.len() - 10..], range);
     assert_eq!((strip.len(), tail), (100 + 11 + 14 + 10, 0));
+}
+
+/// A summary whose metric is LSInfinity. The reference pushes a number over the
+/// metric's three bytes; the strip has kind 9 over the same, and no value.
+#[test]
+fn ls_infinity_is_unreachable() {
+    let data = listing::hex("0001 02 03 0A000001 0A000001 80000001 0000 001C FFFFFF00 00 FFFFFF");
+    let call = call(2, Walk::Lsa, &data);
+    let record = call.record();
+    let metric = record.fields().last().expect("fields");
+    assert_eq!((metric.name(), metric.range.clone()), ("metric", 25..28));
+    assert_eq!(metric.value, FieldValue::U32(16_777_215));
+    let Outcome::Accepted { strip, .. } = call.run() else {
+        panic!("refused");
+    };
+    let entries = "ip4 17 20 24 255.255.255.0\n never 19 25 28";
+    assert_eq!(strip[100..], listing::strip(entries));
 }
 
 /// The reference opens the outer array to the body's end and moves the end

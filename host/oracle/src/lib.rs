@@ -3,8 +3,9 @@
 //!
 //! The files of `docs/src` are compiled as they lie there, against the
 //! stand-in `packet-dissector-core`, which records their calls. From that
-//! record [`strip`](mod@strip) makes the strip of the requirements. The refusals
-//! 1 to 5 are not in the reference; they stand in `walks` and are ours.
+//! record [`strip`](mod@strip) makes the strip of the requirements; a metric that
+//! says [`unreachable`](mod@unreachable) is a number in the record. The refusals 1
+//! to 5 are not in the reference; they stand in `walks` and are ours.
 //!
 //! ```
 //! use oracle::{Call, Walk};
@@ -42,6 +43,7 @@ pub(crate) mod v3_lsa;
 // Ours.
 mod ids;
 mod strip;
+pub mod unreachable;
 mod walks;
 
 #[cfg(test)]

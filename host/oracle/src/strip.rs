@@ -6,15 +6,17 @@ use packet_dissector_core::field::{Field, FieldValue};
 use packet_dissector_core::packet::{DissectBuffer, Event};
 
 use crate::ids::Ids;
+use crate::unreachable::is_unreachable;
 
 const OPEN: u8 = 1;
 const CLOSE: u8 = 2;
 const U8: u8 = 3;
 const U16: u8 = 4;
-const U32: u8 = 5;
+pub(crate) const U32: u8 = 5;
 const IPV4: u8 = 6;
 const IPV6: u8 = 7;
 const BYTES: u8 = 8;
+pub(crate) const UNREACHABLE: u8 = 9;
 const U64: u8 = 10;
 
 /// The strip of a record, and the bytes left over outside of TLVs at its
@@ -83,6 +85,7 @@ impl Writer<'_> {
         match &field.value {
             FieldValue::U8(v) => self.entry(U8, field, &[*v]),
             FieldValue::U16(v) => self.entry(U16, field, &v.to_be_bytes()),
+            FieldValue::U32(_) if is_unreachable(field) => self.entry(UNREACHABLE, field, &[]),
             FieldValue::U32(v) => self.entry(U32, field, &v.to_be_bytes()),
             FieldValue::U64(v) => self.entry(U64, field, &v.to_be_bytes()),
             FieldValue::Ipv4Addr(v) => self.entry(IPV4, field, v),

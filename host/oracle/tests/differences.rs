@@ -156,15 +156,6 @@ fn mask_of_a_type_4_summary_is_shown() {
 }
 
 #[test]
-fn ls_infinity_is_a_number() {
-    check(
-        2,
-        "0001 02 03 0A000001 0A000001 80000001 0000 001C FFFFFF00 00 FFFFFF",
-        "ip4 17 20 24 255.255.255.0\n u32 19 25 28 16777215",
-    );
-}
-
-#[test]
 fn unknown_link_types_are_shown() {
     let (strip, ..) = run(
         2,

@@ -41,6 +41,7 @@ fn tests_and_document_name_each_other() {
     let files = [
         "tests/requirements.rs",
         "tests/blocks.rs",
+        "tests/unreachable.rs",
         "../ospf-strip/tests/wrapper.rs",
     ];
     let others: BTreeSet<String> = files.into_iter().flat_map(tests).collect();

@@ -187,6 +187,7 @@ fn kind_of(kind: u8) -> (&'static str, Vec<usize>) {
     let name = match word {
         "open" => "opens",
         "close" => "closes",
+        "never" => "unreachable",
         same => same,
     };
     (name, widths)
@@ -312,7 +313,7 @@ fn listings() {
     let rows = table.split(|w| w == "prints").skip(1);
     let accepted = rows.filter(|row| !row.iter().any(|w| w.starts_with("refused")));
     let accepted: Vec<_> = accepted.collect();
-    assert_eq!(accepted.len(), 3);
+    assert_eq!(accepted.len(), 4);
     for row in accepted {
         let mut row = row.to_vec();
         let input = bytes(&until(&mut row, "[]"));

@@ -4,7 +4,8 @@
 //! headers, 1 the body of a Link State Update, 2 a single LSA) or the block
 //! (3 an LLS data block, 4 an authentication trailer; then the version is not
 //! looked at), and the data. Beside the LS checksum of a whole LSA stands
-//! whether it is right. A block that is not there prints `absent`.
+//! whether it is right; a metric that says unreachable prints `unreachable` for
+//! a value. A block that is not there prints `absent`.
 
 use std::env;
 use std::fs;
@@ -104,7 +105,11 @@ fn print(strip: Strip, input: &[u8]) {
 fn line(entry: &Entry, lsa: Option<&[u8]>) -> String {
     let name = entry.name().unwrap_or("?");
     let range = entry.range().unwrap_or_default();
-    let value = entry.value().map(|v| format!(" = {v}")).unwrap_or_default();
+    let value = match entry.value() {
+        Some(value) => format!(" = {value}"),
+        None if entry.is_unreachable() => " = unreachable".to_string(),
+        None => String::new(),
+    };
     let lsa = lsa.filter(|_| name == "ls_checksum");
     let checked = match lsa.map(checksum_is_good) {
         Some(Ok(true)) => ", good",

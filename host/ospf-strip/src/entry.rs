@@ -29,6 +29,9 @@ pub enum Kind {
     Ipv6 = 7,
     /// Bytes of the packet, by their range alone.
     Bytes = 8,
+    /// A metric that says unreachable, by its range alone: one of 24 bits, all
+    /// ones, which RFC 2328 appendix B calls LSInfinity.
+    Unreachable = 9,
     /// A field with a value of 64 bits.
     U64 = 10,
 }
@@ -89,6 +92,7 @@ enum View<'a> {
     Ipv4(&'a [u8; HEAD + 4]),
     Ipv6(&'a [u8; HEAD + 16]),
     Bytes(&'a [u8; HEAD]),
+    Unreachable(&'a [u8; HEAD]),
     U64(&'a [u8; HEAD + 8]),
 }
 
@@ -109,6 +113,7 @@ impl<'a> View<'a> {
             6 => split(bytes, View::Ipv4),
             7 => split(bytes, View::Ipv6),
             8 => split(bytes, View::Bytes),
+            9 => split(bytes, View::Unreachable),
             10 => split(bytes, View::U64),
             _ => None,
         }
@@ -158,12 +163,39 @@ impl<'a> Entry<'a> {
         Some(u32::from_be_bytes([a, b, c, d])..u32::from_be_bytes([e, f, g, h]))
     }
 
-    /// The value, of a kind that has one.
+    /// The value, of a kind that has one. A metric that says unreachable has
+    /// none.
     #[inline]
     #[must_use]
     pub fn value(&self) -> Option<Value> {
         let (_, _, value) = self.read();
         value
+    }
+
+    /// Whether the field is a metric that says unreachable, and so no cost.
+    ///
+    /// ```
+    /// use ospf_strip::{Buffer, Value, Version};
+    ///
+    /// // A version 2 summary LSA: metric unreachable, and for TOS 8 a cost of 10.
+    /// let lsa = [
+    ///     0, 1, 2, 3, 10, 1, 0, 0, 10, 0, 0, 1, 0x80, 0, 0, 1, 0, 0, 0, 32, //
+    ///     255, 255, 0, 0, 0, 0xFF, 0xFF, 0xFF, 8, 0, 0, 10,
+    /// ];
+    /// let mut buffer = Buffer::new();
+    /// let strip = buffer.lsa(Version::V2, &lsa, 0)?;
+    /// let mut metrics = strip.entries().filter(|entry| entry.name() == Some("metric"));
+    /// let metric = metrics.next().unwrap();
+    /// assert_eq!((metric.is_unreachable(), metric.value()), (true, None));
+    /// assert_eq!(metric.range(), Some(25..28));
+    /// let metric = metrics.next().unwrap();
+    /// assert_eq!((metric.is_unreachable(), metric.value()), (false, Some(Value::U32(10))));
+    /// # Ok::<(), ospf_strip::Refusal>(())
+    /// ```
+    #[inline]
+    #[must_use]
+    pub fn is_unreachable(&self) -> bool {
+        self.kind() == Kind::Unreachable
     }
 
     /// All that an entry says: its kind; kind, id, start and end as bytes; and
@@ -191,6 +223,7 @@ impl<'a> Entry<'a> {
                 (Kind::Ipv6, b.first_chunk(), Some(Value::Ipv6(value)))
             }
             View::Bytes(head) => (Kind::Bytes, Some(head), None),
+            View::Unreachable(head) => (Kind::Unreachable, Some(head), None),
             View::U64(b) => {
                 let value = u64::from_be_bytes(*last(b));
                 (Kind::U64, b.first_chunk(), Some(Value::U64(value)))
@@ -347,9 +380,13 @@ impl<'a> Iterator for Entries<'a> {
                     Close {}
                 }),
                 7 => rows!(Ipv6 { Close {} }),
+                // It stands in no row of another kind, so that a strip without it
+                // is not tested for it: where it stood in the row of a TOS metric,
+                // other rows took up to a tenth more instructions.
+                9 => rows!(Unreachable { Close {} Ipv4 {} U8 {} }),
                 10 => rows!(U64 {}),
                 // None of them is a kind, and no strip has one.
-                0 | 9 | 11 | 12 | 13 | 14 | 15 => return folded,
+                0 | 11 | 12 | 13 | 14 | 15 => return folded,
                 _ => rows!(Bytes {}),
             }
         }
@@ -377,7 +414,7 @@ mod tests {
     #[test]
     fn no_kind_ends() {
         for kind in 0..=u8::MAX {
-            let known = matches!(kind, 1..=8 | 10);
+            let known = matches!(kind, 1..=10);
             for length in [1, 10, WINDOW - 1, WINDOW, 4 * WINDOW] {
                 let bytes = vec![kind; length];
                 let folded = entries(&bytes).fold(0, |count, _| count + 1);

@@ -28,7 +28,7 @@ impl<'a> Strip<'a> {
     ///
     /// let strip = Strip::from_bytes(Version::V2, &[2, 2])?;
     /// assert_eq!(strip.entries().count(), 2);
-    /// let damaged = Strip::from_bytes(Version::V2, &[2, 9]).unwrap_err();
+    /// let damaged = Strip::from_bytes(Version::V2, &[2, 11]).unwrap_err();
     /// assert_eq!(damaged, DamagedStrip::Kind { place: 1 });
     /// # Ok::<(), DamagedStrip>(())
     /// ```

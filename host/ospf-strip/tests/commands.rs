@@ -197,6 +197,37 @@ fn examples_of_blocks() {
     assert!(readme.contains(&format!("```text\n{shown}```")), "{shown}");
 }
 
+/// A metric that says unreachable prints so, as itself and in the TOS list, beside one that is a cost.
+#[test]
+fn unreachable_metrics() {
+    built();
+    let text = printed("fields", &["examples/unreachable.bin"], Stdio::null());
+    let (header, body) = text.split_at(text.find("network_mask").expect("the body"));
+    assert_eq!(header.lines().count(), 8, "{header}");
+    let expected = "\
+network_mask [20..24] = 255.255.0.0
+metric [25..28] = unreachable
+tos_metrics [28..36]
+  tos_metric [28..32]
+    tos [28..29] = 8
+    metric [29..32] = 10
+  tos_metric [32..36]
+    tos [32..33] = 16
+    metric [33..36] = unreachable
+";
+    assert_eq!(body, expected);
+    // README.md shows a line of each command.
+    let readme = fs::read_to_string(top().join("README.md")).unwrap();
+    let listing = fs::read_to_string(top().join("examples/unreachable.txt")).unwrap();
+    for (text, line) in [
+        (text, "metric [25..28] = unreachable"),
+        (listing, "never 19 25 28"),
+    ] {
+        assert!(text.lines().any(|l| l == line), "{text}");
+        assert!(readme.contains(&format!("`{line}`")), "{line}");
+    }
+}
+
 /// Beside the LS checksum of a whole LSA stands whether it is right; of a header alone nothing is said.
 #[test]
 fn checksums_are_checked() {

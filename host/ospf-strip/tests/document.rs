@@ -10,8 +10,15 @@ use inputs::{Class, Input};
 use ospf_strip::{Buffer, Kind, Version};
 use walk::run;
 
-/// Classes that together have every field at every length it may have.
-const CLASSES: [Class; 4] = [Class::Structured, Class::Tos, Class::Prefix, Class::Block];
+/// Classes that together have every field in every kind and at every length it
+/// may have.
+const CLASSES: [Class; 5] = [
+    Class::Structured,
+    Class::Tos,
+    Class::Prefix,
+    Class::Block,
+    Class::Unreachable,
+];
 
 fn document() -> String {
     let root = Path::new(env!("CARGO_MANIFEST_DIR"));
@@ -103,8 +110,8 @@ fn word(kind: Kind) -> &'static str {
     listing::kind(kind as u8).expect("a kind").0
 }
 
-/// Kind and lengths of every id are those of the generated strips; a cell
-/// without a length stands for more than one.
+/// Kinds and lengths of every id are those of the generated strips; a cell
+/// without a length stands for more than one. What is unreachable takes 3 bytes.
 #[test]
 fn kinds_and_lengths() {
     for version in [2, 3] {
@@ -119,13 +126,14 @@ fn kinds_and_lengths() {
             }
         });
         for (id, row) in ids(version) {
-            let (kind, lengths) = (row[2].as_str(), row[3].as_str());
+            let (kinds, lengths) = (row[2].as_str(), row[3].as_str());
             let found = seen.remove(&id).unwrap_or_default();
-            assert!(
-                found.iter().all(|&(word, _)| word == kind),
-                "{id} {found:?}"
-            );
-            let found: Vec<String> = found.iter().map(|(_, n)| n.to_string()).collect();
+            let words: BTreeSet<&str> = found.iter().map(|&(word, _)| word).collect();
+            assert_eq!(words, kinds.split(", ").collect(), "{id} {found:?}");
+            let unreachable = found.iter().filter(|&&(word, _)| word == "never");
+            assert!(unreachable.copied().all(|(_, n)| n == 3), "{id} {found:?}");
+            let found: BTreeSet<u32> = found.iter().map(|&(_, n)| n).collect();
+            let found: Vec<String> = found.iter().map(u32::to_string).collect();
             let fits = if lengths.is_empty() {
                 found.len() > 1
             } else {

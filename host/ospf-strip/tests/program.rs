@@ -112,7 +112,7 @@ fn examples_are_printed() {
             compared += 1;
         }
     }
-    assert!(compared >= 4, "{compared}");
+    assert!(compared >= 5, "{compared}");
 }
 
 /// The program's own refusals, and the largest input.

@@ -9,7 +9,7 @@ mod walk;
 use c_reader::Step;
 use inputs::{Class, Rng};
 use lines::line;
-use ospf_strip::Kind::{self, Bytes, Close, Ipv4, Ipv6, Open, U8, U16, U32, U64};
+use ospf_strip::Kind::{self, Bytes, Close, Ipv4, Ipv6, Open, U8, U16, U32, U64, Unreachable};
 use ospf_strip::{Buffer, Entry, Strip, Version, exports};
 use walk::run;
 
@@ -102,6 +102,7 @@ fn strips_of_the_walks() {
         Class::Damaged,
         Class::Large,
         Class::Block,
+        Class::Unreachable,
     ] {
         inputs::of_class(class, 8, 20, &mut |input| {
             if let Ok(strip) = run(&mut buffer, &input) {
@@ -205,8 +206,9 @@ fn any_order_of_entries() {
 }
 
 /// What the layouts have in a row: the headers and links of both versions, TOS
-/// metrics of a link and of an external, a prefix, the blocks.
-const ROWS: [&[Kind]; 9] = [
+/// metrics of a link and of an external, a prefix, the blocks; and unreachable
+/// metrics with what stands around them.
+const ROWS: [&[Kind]; 16] = [
     &[Open, U16, U8, U8, Ipv4, Ipv4, U32, U16, U16, Close],
     &[Open, U16, U16, U32, Ipv4, U32, U16, U16, Close],
     &[Open, Ipv4, Ipv4, U8, U8, U16, Close],
@@ -216,6 +218,13 @@ const ROWS: [&[Kind]; 9] = [
     &[Open, U8, U8, U16, Ipv6, Close],
     &[Open, U16, U16, Bytes, Close],
     &[Open, U16, U16, U16, U64, Bytes, Close],
+    &[Open, U8, Unreachable, Close],
+    &[Open, U8, U8, Unreachable, Ipv4, U32, Close],
+    &[Ipv4, Unreachable, Open, Open, U8, U32, Close],
+    &[Ipv4, U8, Unreachable, Ipv4, U32, Close],
+    &[U16, Unreachable, U8, U8, Ipv6, Close],
+    &[U16, U32, Unreachable, Ipv4, Close],
+    &[U8, U8, U8, Unreachable, U8, U8, U16, Ipv6, Close],
 ];
 
 /// Each row cut after every entry, at every distance from the strip's end: so

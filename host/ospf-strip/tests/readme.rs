@@ -90,6 +90,16 @@ fn from_c() {
     assert_eq!(printed(&mut Command::new(program)), block(&section, "text"));
 }
 
+/// The program in Python has the length of every kind's body; its own strip has
+/// few of the kinds.
+#[test]
+fn lengths_of_bodies() {
+    let lengths = listing::KINDS.map(|(kind, _, body)| format!("{kind}: {body}"));
+    let program = block(&section("From Python"), "python");
+    let lengths = format!("{{{}}}", lengths.join(", "));
+    assert!(program.contains(&lengths), "{lengths}");
+}
+
 #[test]
 fn from_python() {
     if Command::new("python3").arg("--version").output().is_err() {

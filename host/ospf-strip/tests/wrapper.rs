@@ -15,7 +15,12 @@ use walk::{run, strip_of};
 fn entries_are_the_strip() {
     let mut buffer = Buffer::new();
     let mut strips = 0;
-    for class in [Class::Structured, Class::Damaged, Class::Block] {
+    for class in [
+        Class::Structured,
+        Class::Damaged,
+        Class::Block,
+        Class::Unreachable,
+    ] {
         inputs::of_class(class, 2, 20, &mut |input| {
             let Ok(strip) = run(&mut buffer, &input) else {
                 return;

@@ -4,7 +4,7 @@
 use inputs::{Class, Input, MOST_OFFSET, Rng, lsa, of_class, structured, update};
 use oracle::Walk;
 
-use crate::blocks;
+use crate::{blocks, unreachable};
 
 /// How long a buffer to lend, as seen from the length that is needed.
 #[derive(Clone, Copy, Debug, PartialEq, Eq)]
@@ -46,6 +46,7 @@ pub fn chosen() -> Vec<(Input, Room)> {
     list.refusals();
     list.generated();
     list.large();
+    list.chosen.extend(unreachable::chosen());
     list.chosen.extend(blocks::chosen());
     list.chosen
 }

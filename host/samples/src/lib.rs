@@ -6,6 +6,7 @@
 mod blocks;
 mod chosen;
 mod format;
+mod unreachable;
 
 pub use chosen::{Room, chosen};
 pub use format::{Sample, read, write};

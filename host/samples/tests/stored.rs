@@ -4,8 +4,9 @@ use std::collections::BTreeSet;
 use std::fs;
 use std::path::Path;
 
+use inputs::Places;
 use listing::hex;
-use oracle::{Answer, Call, Walk};
+use oracle::{Answer, Call, Outcome, Walk};
 use samples::{Room, Sample, answered, captures_bin, oracle_bin, read, write};
 
 fn stored(name: &str) -> Vec<u8> {
@@ -182,5 +183,62 @@ fn every_room_of_a_block() {
             (5, false, "short"),
         ];
         assert_eq!(seen, BTreeSet::from(expected), "{walk:?}");
+    }
+}
+
+/// The places of values of all ones in the strip of a sample's call, which is
+/// not stored after a refusal 5.
+fn places(sample: &Sample) -> Places {
+    let mut places = Places::default();
+    let call = Call {
+        version: sample.version,
+        walk: sample.walk,
+        data: &sample.data,
+        count: sample.count,
+        offset: sample.offset,
+    };
+    if let Outcome::Accepted { strip, .. } = call.run() {
+        places.count(sample.version, &strip);
+    }
+    places
+}
+
+/// Stored strips have values of all ones at every place. Strips that say
+/// unreachable are also asked for with an empty buffer, and with one that is a
+/// byte short.
+#[test]
+fn all_ones_at_every_place() {
+    let mut samples = read(&stored("oracle.bin")).expect("samples");
+    samples.retain(|sample| !sample.walk.is_block());
+    let mut accepted = Places::default();
+    let mut short = [0; 2];
+    for sample in &samples {
+        let places = places(sample);
+        match (sample.answer.number, sample.room) {
+            (0, _) => accepted.add(&places),
+            (5, room) if places.seen().iter().any(|place| place.what == "metric") => {
+                assert!(room == 0 || room + 1 == sample.answer.length);
+                short[usize::from(room > 0)] += 1;
+            }
+            _ => {}
+        }
+    }
+    assert_eq!(accepted.seen(), Places::all());
+    assert!(short.iter().all(|&n| n > 2), "{short:?}");
+}
+
+/// Routers say unreachable: 30 inter-area prefix LSAs of the published captures,
+/// each in its update and by itself, all of the age at which they are flushed.
+#[test]
+fn unreachable_in_the_captures() {
+    let samples = read(&captures_bin().expect("the captures")).expect("samples");
+    let single = |sample: &&Sample| sample.walk == Walk::Lsa && places(sample) != Places::default();
+    let found: Vec<&Sample> = samples.iter().filter(single).collect();
+    assert_eq!(found.len(), 30);
+    for sample in found {
+        assert_eq!(sample.data[..4], [0x0E, 0x10, 0x20, 0x03]);
+        assert_eq!(sample.data[20..24], [0, 255, 255, 255]);
+        let metric = sample.strip[90..].starts_with(&[9, 17]);
+        assert!(metric && sample.strip[100] == 3, "a prefix length follows");
     }
 }

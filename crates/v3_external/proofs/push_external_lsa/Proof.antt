@@ -3,10 +3,10 @@ use mathlib.Core.Option.{some}
 use mathlib.Core.Path.{_≡_}
 use lib.ListN.{getD}
 use borrow.Author.Needs.{needs}
-use Rattle.format.specs.Strip.{encode, code}
-use Rattle.format.proofs.Wrote.{then}
+use Rattle.format.proofs.Lengths.{length-both}
+use Rattle.format.proofs.Wrote.{then, encode-append}
 use Rattle.body.proofs.Laws.{pushed-decoded, pushed-raw}
-use Rattle.format.specs.V3.{fixedPrefixFits}
+use Rattle.format.specs.V3.{externalFlags, externalPrefix, fixedPrefixFits}
 use Rattle.v3_external.proofs.Bodies.{external-raw, external-short, external-decoded}
 use Rattle.format.proofs.Prefix.{fits-inside}
 use Rattle.util.proofs.Laws.{some-of, none-of}
@@ -40,37 +40,33 @@ returns-2 c =
     rw (external-short (k1 .args .body .now) (k1 .args .o) _ (fits (k2)) (omega arith)) (pushed-raw _ _)
 
 push-external-flags-requires : tie.Need-push-external-flags-requires
-unfolding encode code
 push-external-flags-requires c κs =
     let s = c .before .before .before .before .before .before .before .before .before in
     let b = s .args .body .now in
     let f = fits (c .before .before .before) in
-    let h = rw (external-decoded b (s .args .o) _ f (omega arith)) at (s .pre .0) in
+    let h = rw (external-decoded b (s .args .o) _ f (omega arith), length-both (externalFlags b (s .args .o)), length-both (externalPrefix b (s .args .o) _)) at (s .pre .0) in
     let i = fits-inside b (getD b 4 0) 8 _ f in
     omega arith
 
 push-external-prefix-requires : tie.Need-push-external-prefix-requires
-unfolding encode code
 push-external-prefix-requires c κs =
     let s = c .before .before .before .before .before .before .before .before .before .before .before .before .before in
     let b = s .args .body .now in
     let f = fits (c .before .before .before .before .before .before .before) in
-    let h = rw (external-decoded b (s .args .o) _ f (omega arith)) at (s .pre .0) in
+    let h = rw (external-decoded b (s .args .o) _ f (omega arith), length-both (externalFlags b (s .args .o)), length-both (externalPrefix b (s .args .o) _)) at (s .pre .0) in
     let i = fits-inside b (getD b 4 0) 8 _ f in
     omega arith
 
 push-external-optional-requires : tie.Need-push-external-optional-requires
-unfolding encode code
 push-external-optional-requires c κs =
     let s = c .before .before .before .before .before .before .before .before .before .before .before .before .before .before .before .before .before in
     let b = s .args .body .now in
     let f = fits (c .before .before .before .before .before .before .before .before .before .before .before) in
-    let h = rw (external-decoded b (s .args .o) _ f (omega arith)) at (s .pre .0) in
+    let h = rw (external-decoded b (s .args .o) _ f (omega arith), length-both (externalFlags b (s .args .o)), length-both (externalPrefix b (s .args .o) _)) at (s .pre .0) in
     let i = fits-inside b (getD b 4 0) 8 _ f in
     omega arith
 
 returns-3 : tie.Need-returns-3
-unfolding encode code
 returns-3 c =
     let k6 = c .before .before in
     let k5 = k6 .before .before .before .before in
@@ -80,7 +76,8 @@ returns-3 c =
     let k1 = k2 .before .before .before .before .before .before in
     rw (external-decoded (k1 .args .body .now) (k1 .args .o) _ (fits (k2)) (omega arith))
     (pushed-decoded _ _ _ (k3 .external-end .ensures)
-    (then (then (k4 .push-external-flags .ensures) (k5 .push-external-prefix .ensures)) (k6 .push-external-optional .ensures)))
+    (rw (encode-append, encode-append (externalPrefix (k1 .args .body .now) (k1 .args .o) _))
+    (then (k4 .push-external-flags .ensures) (then (k5 .push-external-prefix .ensures) (k6 .push-external-optional .ensures)))))
 
 pub push-external-lsa-spec : {M : Type 1} → statement M
 push-external-lsa-spec = tie.close (tie.spec

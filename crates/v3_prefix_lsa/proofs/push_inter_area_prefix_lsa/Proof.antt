@@ -4,9 +4,11 @@ use mathlib.Core.Path.{_≡_, refl}
 use lib.ListN.{getD}
 use borrow.Author.Needs.{needs}
 use Rattle.format.specs.Strip.{encode, code}
+use Rattle.format.specs.Layout.{entriesAt}
+use Rattle.format.proofs.Lengths.{length-entries}
 use Rattle.format.proofs.Wrote.{then}
 use Rattle.body.proofs.Laws.{pushed-decoded, pushed-raw}
-use Rattle.format.specs.V3.{fixedPrefixFits}
+use Rattle.format.specs.V3.{fixedPrefixFits, interAreaPrefixRows}
 use Rattle.v3_prefix_lsa.proofs.Bodies.{inter-area-prefix-raw, inter-area-prefix-decoded}
 use Rattle.format.proofs.Prefix.{fits-inside}
 use Rattle.util.proofs.Laws.{some-of, none-of}
@@ -35,7 +37,7 @@ push-metric24-at-requires c κs =
     let f = fits (c .before) in
     let h = rw (inter-area-prefix-decoded b (s .args .o) _ f) at (s .pre .0) in
     let i = fits-inside b (getD b 4 0) 8 _ f in
-    omega arith
+    omega (arith, length-entries (entriesAt (interAreaPrefixRows (c .before .before .n .given .0 .0)) b (s .args .o) 0))
 
 push-u8-at-requires : tie.Need-push-u8-at-requires
 unfolding encode code
@@ -45,7 +47,7 @@ push-u8-at-requires c κs =
     let f = fits (c .before .before .before .before .before) in
     let h = rw (inter-area-prefix-decoded b (s .args .o) _ f) at (s .pre .0) in
     let i = fits-inside b (getD b 4 0) 8 _ f in
-    omega arith
+    omega (arith, length-entries (entriesAt (interAreaPrefixRows (c .before .before .before .before .before .before .n .given .0 .0)) b (s .args .o) 0))
 
 push-u8-at-requires-2 : tie.Need-push-u8-at-requires-2
 unfolding encode code
@@ -55,7 +57,7 @@ push-u8-at-requires-2 c κs =
     let f = fits (c .before .before .before .before .before .before .before .before .before) in
     let h = rw (inter-area-prefix-decoded b (s .args .o) _ f) at (s .pre .0) in
     let i = fits-inside b (getD b 4 0) 8 _ f in
-    omega arith
+    omega (arith, length-entries (entriesAt (interAreaPrefixRows (c .before .before .before .before .before .before .before .before .before .before .n .given .0 .0)) b (s .args .o) 0))
 
 push-ipv6-at-requires : tie.Need-push-ipv6-at-requires
 unfolding encode code
@@ -65,7 +67,7 @@ push-ipv6-at-requires c κs =
     let f = fits (c .before .before .before .before .before .before .before .before .before .before .before .before .before) in
     let h = rw (inter-area-prefix-decoded b (s .args .o) _ f) at (s .pre .0) in
     let i = fits-inside b (getD b 4 0) 8 _ f in
-    omega arith
+    omega (arith, length-entries (entriesAt (interAreaPrefixRows (c .before .before .before .before .before .before .before .before .before .before .before .before .before .before .n .given .0 .0)) b (s .args .o) 0))
 
 add-t19 : tie.Need-add-t19
 add-t19 c =
@@ -86,7 +88,7 @@ returns-2 c =
     let k1 = k2 .before .before .before .before .before .before in
     rw (inter-area-prefix-decoded (k1 .args .body .now) (k1 .args .o) _ (fits (k2)))
     (pushed-decoded _ _ _ refl
-    (then (then (then (k3 .push-metric24-at .ensures) (k4 .push-u8-at .ensures)) (k5 .push-u8-at2 .ensures)) (k6 .push-ipv6-at .ensures)))
+    (then (k3 .push-metric24-at .ensures) (then (k4 .push-u8-at .ensures) (then (k5 .push-u8-at2 .ensures) (k6 .push-ipv6-at .ensures)))))
 
 pub push-inter-area-prefix-lsa-spec : {M : Type 1} → statement M
 push-inter-area-prefix-lsa-spec = tie.close (tie.spec

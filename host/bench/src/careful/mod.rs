@@ -9,7 +9,7 @@ mod v2;
 mod v3;
 mod writer;
 
-use writer::Writer;
+use writer::{Writer, is_unreachable};
 
 const HEADER: u8 = 112;
 const LSA: u8 = 113;
@@ -186,6 +186,12 @@ fn write_rest<'a>(w: Writer<'a>, id: u8, rest: &[u8], at: u32) -> Writer<'a> {
     } else {
         w.bytes(id, at, rest.len() as u32)
     }
+}
+
+/// A 24-bit metric, which has no value if it is unreachable.
+#[inline]
+fn measure_metric(metric: u32) -> usize {
+    if is_unreachable(metric) { 10 } else { 14 }
 }
 
 /// Attached routers, both versions'.

@@ -1,8 +1,9 @@
 //! LSAs of version 2 (RFC 2328 A.4, RFC 3101, RFC 5250).
 
-use super::writer::{Writer, be16, be24, be32};
+use super::writer::{Writer, be16, be24, be32, is_unreachable};
 use super::{
-    BYTES, CONTAINER, Header, Lsa, measure_rest, measure_routers, write_rest, write_routers,
+    BYTES, CONTAINER, Header, Lsa, measure_metric, measure_rest, measure_routers, write_rest,
+    write_routers,
 };
 
 /// What a body's entries take, and how many of its bytes they cover.
@@ -183,10 +184,25 @@ fn write_network<'a>(w: Writer<'a>, body: &[u8], o: u32) -> Written<'a> {
     (w, Some(body.len() - rest.len()))
 }
 
+/// An array of TOS entries that have a 24-bit metric in their first word, which
+/// is not opened if there is none; `each` is what one takes that is not
+/// unreachable.
+#[inline]
+fn measure_route_tos<const N: usize>(tos: &[[u8; N]], each: usize) -> usize {
+    if tos.is_empty() {
+        return 0;
+    }
+    // Counted in 32 bits, as wide as what is compared: in 64, vectors hold half.
+    let unreachable = |t: &[u8; N]| u32::from(is_unreachable(be24(t, 0)));
+    let unreachable: u32 = tos.iter().map(unreachable).sum();
+    CONTAINER + tos.len() * each - 4 * unreachable as usize
+}
+
 fn measure_summary(body: &[u8]) -> Option<Measured> {
-    let (_, tos) = body.split_first_chunk::<8>()?;
+    let (f, tos) = body.split_first_chunk::<8>()?;
     let (tos, rest) = tos.as_chunks::<4>();
-    Some((28 + measure_tos(tos.len(), 36), body.len() - rest.len()))
+    let length = 14 + measure_metric(be24(f, 4)) + measure_route_tos(tos, 36);
+    Some((length, body.len() - rest.len()))
 }
 
 fn write_summary<'a>(w: Writer<'a>, body: &[u8], o: u32) -> Written<'a> {
@@ -194,7 +210,7 @@ fn write_summary<'a>(w: Writer<'a>, body: &[u8], o: u32) -> Written<'a> {
         return (w, None);
     };
     let (tos, rest) = tos.as_chunks::<4>();
-    let mut w = w.ipv4(17, o, be32(f, 0)).u32(19, o + 5, 3, be24(f, 4));
+    let mut w = w.ipv4(17, o, be32(f, 0)).metric(19, o + 5, be24(f, 4));
     if !tos.is_empty() {
         let mut at = o + 8;
         w = w.open(20, at, 4 * tos.len() as u32);
@@ -202,7 +218,7 @@ fn write_summary<'a>(w: Writer<'a>, body: &[u8], o: u32) -> Written<'a> {
             w = w
                 .open(97, at, 4)
                 .u8(81, at, t[0])
-                .u32(82, at + 1, 3, be24(t, 0))
+                .metric(82, at + 1, be24(t, 0))
                 .close();
             at += 4;
         }
@@ -212,9 +228,10 @@ fn write_summary<'a>(w: Writer<'a>, body: &[u8], o: u32) -> Written<'a> {
 }
 
 fn measure_external(body: &[u8]) -> Option<Measured> {
-    let (_, tos) = body.split_first_chunk::<16>()?;
+    let (f, tos) = body.split_first_chunk::<16>()?;
     let (tos, rest) = tos.as_chunks::<12>();
-    Some((67 + measure_tos(tos.len(), 75), body.len() - rest.len()))
+    let length = 53 + measure_metric(be24(f, 4)) + measure_route_tos(tos, 75);
+    Some((length, body.len() - rest.len()))
 }
 
 fn write_external<'a>(w: Writer<'a>, body: &[u8], o: u32) -> Written<'a> {
@@ -225,7 +242,7 @@ fn write_external<'a>(w: Writer<'a>, body: &[u8], o: u32) -> Written<'a> {
     let mut w = w
         .ipv4(17, o, be32(f, 0))
         .u8(13, o + 4, f[4] >> 7)
-        .u32(19, o + 5, 3, be24(f, 4))
+        .metric(19, o + 5, be24(f, 4))
         .ipv4(21, o + 8, be32(f, 8))
         .u32(22, o + 12, 4, be32(f, 12));
     if !tos.is_empty() {
@@ -236,7 +253,7 @@ fn write_external<'a>(w: Writer<'a>, body: &[u8], o: u32) -> Written<'a> {
                 .open(97, at, 12)
                 .u8(80, at, t[0] >> 7)
                 .u8(81, at, t[0] & 0x7F)
-                .u32(82, at + 1, 3, be24(t, 0))
+                .metric(82, at + 1, be24(t, 0))
                 .ipv4(83, at + 4, be32(t, 4))
                 .u32(84, at + 8, 4, be32(t, 8))
                 .close();

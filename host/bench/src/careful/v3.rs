@@ -2,7 +2,8 @@
 
 use super::writer::{Writer, be16, be24, be32};
 use super::{
-    BYTES, CONTAINER, Header, Lsa, measure_rest, measure_routers, write_rest, write_routers,
+    BYTES, CONTAINER, Header, Lsa, measure_metric, measure_rest, measure_routers, write_rest,
+    write_routers,
 };
 
 /// What the fields of a header take.
@@ -52,7 +53,7 @@ fn measure_body(function: u16, body: &[u8]) -> Option<Measured> {
         1 => measure_router(body),
         2 => measure_network(body),
         3 => measure_inter_area_prefix(body),
-        4 => body.get(..12).map(|_| (3 * 14, 12)),
+        4 => measure_inter_area_router(body),
         5 | 7 => measure_external(body),
         8 => measure_link_lsa(body),
         9 => measure_intra_area_prefix(body),
@@ -173,12 +174,17 @@ fn write_network<'a>(w: Writer<'a>, body: &[u8], o: u32) -> Written<'a> {
     (w, Some(body.len() - rest.len()))
 }
 
+fn measure_inter_area_router(body: &[u8]) -> Option<Measured> {
+    let f = body.first_chunk::<12>()?;
+    Some((2 * 14 + measure_metric(be24(f, 4)), 12))
+}
+
 fn write_inter_area_router<'a>(w: Writer<'a>, body: &[u8], o: u32) -> Written<'a> {
     let Some(f) = body.first_chunk::<12>() else {
         return (w, None);
     };
     let w = write_options(w, f, o)
-        .u32(17, o + 5, 3, be24(f, 4))
+        .metric(17, o + 5, be24(f, 4))
         .ipv4(21, o + 8, be32(f, 8));
     (w, Some(12))
 }
@@ -196,8 +202,9 @@ fn fixed_prefix(body: &[u8]) -> Option<(&[u8; 8], &[u8])> {
 }
 
 fn measure_inter_area_prefix(body: &[u8]) -> Option<Measured> {
-    let (_, prefix) = fixed_prefix(body)?;
-    Some((14 + 11 + 11 + 26, 8 + prefix.len()))
+    let (f, prefix) = fixed_prefix(body)?;
+    let length = measure_metric(be24(f, 0)) + 11 + 11 + 26;
+    Some((length, 8 + prefix.len()))
 }
 
 fn write_inter_area_prefix<'a>(w: Writer<'a>, body: &[u8], o: u32) -> Written<'a> {
@@ -205,7 +212,7 @@ fn write_inter_area_prefix<'a>(w: Writer<'a>, body: &[u8], o: u32) -> Written<'a
         return (w, None);
     };
     let w = w
-        .u32(17, o + 1, 3, be24(f, 0))
+        .metric(17, o + 1, be24(f, 0))
         .u8(18, o + 4, f[4])
         .u8(19, o + 5, f[5])
         .ipv6(20, o + 8, prefix);
@@ -246,7 +253,8 @@ fn external(body: &[u8]) -> Option<External<'_>> {
 
 fn measure_external(body: &[u8]) -> Option<Measured> {
     let x = external(body)?;
-    let mut measured = (4 * 11 + 74, 8 + x.prefix.len());
+    let metric = measure_metric(be24(x.first, 0));
+    let mut measured = (4 * 11 + metric + 60, 8 + x.prefix.len());
     let optional = [
         (x.forwarding.is_some(), (26, 16)),
         (x.tag.is_some(), (14, 4)),
@@ -270,7 +278,7 @@ fn write_external<'a>(w: Writer<'a>, body: &[u8], o: u32) -> Written<'a> {
         .u8(10, o, f[0] >> 2 & 1)
         .u8(12, o, f[0] >> 1 & 1)
         .u8(13, o, f[0] & 1)
-        .u32(17, o + 1, 3, be24(f, 0))
+        .metric(17, o + 1, be24(f, 0))
         .u8(18, o + 4, f[4])
         .u8(19, o + 5, f[5])
         .u16(22, o + 6, be16(f, 6))

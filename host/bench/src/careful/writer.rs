@@ -9,7 +9,14 @@ const U32: u8 = 5;
 const IPV4: u8 = 6;
 const IPV6: u8 = 7;
 const BYTES: u8 = 8;
+const UNREACHABLE: u8 = 9;
 const U64: u8 = 10;
+
+/// Whether a 24-bit metric says unreachable (RFC 2328 appendix B, LSInfinity).
+#[inline]
+pub fn is_unreachable(metric: u32) -> bool {
+    metric == 0x00FF_FFFF
+}
 
 /// A strip as far as it is not written yet. It goes by value from entry to
 /// entry, and so through registers.
@@ -85,6 +92,16 @@ impl<'a> Writer<'a> {
         rest
     }
 
+    /// A 24-bit metric: a u32 field, or unreachable, which has no value.
+    #[inline]
+    pub fn metric(self, id: u8, start: u32, metric: u32) -> Writer<'a> {
+        if is_unreachable(metric) {
+            self.entry::<10>(UNREACHABLE, id, start, 3).1
+        } else {
+            self.u32(id, start, 3, metric)
+        }
+    }
+
     #[inline]
     pub fn u64(self, id: u8, start: u32, value: u64) -> Writer<'a> {
         let (entry, rest) = self.entry::<18>(U64, id, start, 8);
@@ -131,9 +148,11 @@ pub fn be16(from: &[u8], at: usize) -> u16 {
     u16::from_be_bytes([from[at], from[at + 1]])
 }
 
+// As an array, so that it is one load: put together from single bytes, those
+// that `be24` keeps would be loaded one by one.
 #[inline]
 pub fn be32(from: &[u8], at: usize) -> u32 {
-    u32::from_be_bytes([from[at], from[at + 1], from[at + 2], from[at + 3]])
+    u32::from_be_bytes(*from[at..].first_chunk().expect("a part of known length"))
 }
 
 #[inline]

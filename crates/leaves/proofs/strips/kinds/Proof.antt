@@ -7,5 +7,5 @@ use Rattle.leaves.proofs.strips.kinds.Tie as tie
 pub kinds-spec : {M : Type 1} → statement M
 unfolding code
 kinds-spec = tie.close (tie.spec
-    (λ c. search needs) (λ c κs. omega arith) (λ c κs. omega arith) (λ c κs. omega arith) (λ c κs. omega arith)
+    (λ c. search needs) (λ c κs. omega arith) (λ c κs. omega arith) (λ c κs. omega arith) (λ c κs. omega arith) (λ c κs. omega arith)
     (λ c. search needs) (λ c. search needs))

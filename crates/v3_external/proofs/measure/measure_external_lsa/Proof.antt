@@ -4,12 +4,12 @@ use mathlib.Core.Option.{some}
 use mathlib.Core.Path.{_≡_}
 use lib.ListN.{getD}
 use borrow.Author.Needs.{needs}
-use Rattle.format.specs.Strip.{encode, code}
-use Rattle.format.specs.V3.{hasForwarding, hasTag, hasReference, fixedPrefixFits}
+use Rattle.format.specs.Strip.{code}
+use Rattle.format.specs.V3.{externalFlags, externalPrefix, hasForwarding, hasTag, hasReference, fixedPrefixFits}
 use Rattle.v3_external.proofs.Bodies.{external-raw, external-short, external-decoded}
 use Rattle.format.proofs.Prefix.{fits-inside}
 use Rattle.util.proofs.Laws.{some-of, none-of}
-use Rattle.format.proofs.Lengths.{at-most, length-optional}
+use Rattle.format.proofs.Lengths.{at-most, length-both, length-entries, length-optional}
 use Rattle.v3_external.proofs.measure.measure_external_lsa.Statement.{statement}
 use Rattle.v3_external.proofs.measure.measure_external_lsa.Tie as tie
 
@@ -33,9 +33,9 @@ external-end-requires c κs =
 returns-2 : tie.Need-returns-2
 returns-2 c = λ o. rw (external-short (c .before .before .before .before .before .before .before .args .body .now) o _ (fits (c .before .before)) (omega arith))
 
-add-t7 : tie.Need-add-t7
-add-t7 c =
-    let b = c .before .before .before .before .before .before .before .before .args .body .now in
+add-t9 : tie.Need-add-t9
+add-t9 c =
+    let b = c .before .before .before .before .before .before .before .before .before .args .body .now in
     let e = c .measure-external-optional .ensures 0 0 in
     let l = length-optional b 0 0 in
     let h1 = at-most (hasForwarding b) 26 in
@@ -44,17 +44,22 @@ add-t7 c =
     omega arith
 
 returns-3 : tie.Need-returns-3
-unfolding encode code
+unfolding code
 returns-3 c =
-    let k4 = c .before .before in
+    let k4 = c .before .before .before in
     let k3 = k4 .before in
     let k2 = k3 .before in
     let k1 = k2 .before .before .before .before in
+    let b = k1 .args .body .now in
+    let n = k2 .n .given .0 .0 in
     λ o.
-    let q = c .measure-external-optional .ensures o (k2 .n .given .0 .0) in
-    rw (external-decoded (k1 .args .body .now) o _ (fits (k3)) (omega arith)) (same-decoded (omega arith) (k4 .external-end .ensures))
+    let q = c .measure-external-optional .ensures o n in
+    let m = c .before .measure-metric24 .ensures .0 17 o in
+    rw (external-decoded b o _ (fits (k3)) (omega arith))
+    (same-decoded (rw (length-both (externalFlags b o), length-both (externalPrefix b o n)) (omega (arith, length-entries (externalFlags b o), length-entries (externalPrefix b o n))))
+    (k4 .external-end .ensures))
 
 pub measure-external-lsa-spec : {M : Type 1} → statement M
 measure-external-lsa-spec = tie.close (tie.spec
-    (λ c. search needs) (λ c. search needs) enum-told returns external-end-requires returns-2 (λ c. search needs) add-t7
-    returns-3)
+    (λ c. search needs) (λ c. search needs) enum-told returns external-end-requires returns-2 (λ c κs. search needs)
+    (λ c. search needs) (λ c κs. search needs) add-t9 returns-3)

@@ -1,10 +1,13 @@
 use native.Mathlib.Omega.{arith}
 use mathlib.Core.Option.{some}
-use mathlib.Core.Path.{_≡_}
+use mathlib.Core.Path.{_≡_, refl}
 use lib.ListN.{getD}
 use borrow.Author.Needs.{needs}
-use Rattle.format.specs.Strip.{encode, code}
-use Rattle.format.specs.V3.{fixedPrefixFits}
+use Rattle.format.specs.Strip.{code}
+use Rattle.format.specs.Layout.{entriesAt}
+use Rattle.format.proofs.Lengths.{length-entries}
+use Rattle.body.proofs.Laws.{same-decoded}
+use Rattle.format.specs.V3.{fixedPrefixFits, interAreaPrefixRows}
 use Rattle.v3_prefix_lsa.proofs.Bodies.{inter-area-prefix-raw, inter-area-prefix-decoded}
 use Rattle.format.proofs.Prefix.{fits-inside}
 use Rattle.util.proofs.Laws.{some-of, none-of}
@@ -22,15 +25,27 @@ returns c =
 fits : (c : tie.After-known-told) → fixedPrefixFits (c .before .before .before .before .before .args .body .now) ≡ some (c .before .n .given .0 .0)
 fits c = let k = c .before .before .before in some-of _ _ (k .fixed-prefix-fits .result) (k .fixed-prefix-fits .ensures) (c .before .n .given .1)
 
-add-t4 : tie.Need-add-t4
-add-t4 c =
+measure-metric24-requires : tie.Need-measure-metric24-requires
+measure-metric24-requires c κs =
     let b = c .before .before .before .before .before .args .body .now in
     let i = fits-inside b (getD b 4 0) 8 _ (fits c) in
     omega arith
 
+add-t6 : tie.Need-add-t6
+add-t6 c =
+    let b = c .before .before .before .before .before .before .args .body .now in
+    let i = fits-inside b (getD b 4 0) 8 _ (fits (c .before)) in
+    omega arith
+
 returns-2 : tie.Need-returns-2
-unfolding encode code
-returns-2 c = λ o. rw (inter-area-prefix-decoded (c .before .before .before .before .before .args .body .now) o _ (fits c))
+unfolding code
+returns-2 c =
+    let b = c .before .before .before .before .before .before .args .body .now in
+    λ o.
+    let m = c .measure-metric24 .ensures .0 17 o in
+    rw (inter-area-prefix-decoded b o _ (fits (c .before)))
+    (same-decoded (omega (arith, length-entries (entriesAt (interAreaPrefixRows (c .before .before .n .given .0 .0)) b o 0))) refl)
 
 pub measure-inter-area-prefix-lsa-spec : {M : Type 1} → statement M
-measure-inter-area-prefix-lsa-spec = tie.close (tie.spec (λ c. search needs) (λ c. search needs) enum-told returns add-t4 returns-2)
+measure-inter-area-prefix-lsa-spec = tie.close (tie.spec
+    (λ c. search needs) (λ c. search needs) enum-told returns measure-metric24-requires (λ c. search needs) add-t6 returns-2)

@@ -1,7 +1,7 @@
-use Rattle.strip_put.specs.Swap.{swap64}
+use Rattle.util.specs.Swap.{swap64}
 use borrow.Author.Needs.{needs}
-use Rattle.strip_put.proofs.swap.swap_u64.Statement.{statement}
-use Rattle.strip_put.proofs.swap.swap_u64.Tie as tie
+use Rattle.util.proofs.swap.swap_u64.Statement.{statement}
+use Rattle.util.proofs.swap.swap_u64.Tie as tie
 
 returns : tie.Need-returns
 unfolding swap64

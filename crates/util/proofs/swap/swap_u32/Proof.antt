@@ -1,7 +1,7 @@
-use Rattle.strip_put.specs.Swap.{swap32}
+use Rattle.util.specs.Swap.{swap32}
 use borrow.Author.Needs.{needs}
-use Rattle.strip_put.proofs.swap.swap_u32.Statement.{statement}
-use Rattle.strip_put.proofs.swap.swap_u32.Tie as tie
+use Rattle.util.proofs.swap.swap_u32.Statement.{statement}
+use Rattle.util.proofs.swap.swap_u32.Tie as tie
 
 returns : tie.Need-returns
 unfolding swap32

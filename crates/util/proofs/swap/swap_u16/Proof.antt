@@ -1,8 +1,8 @@
 use mathlib.Core.Path.{refl}
-use Rattle.strip_put.specs.Swap.{swap16}
+use Rattle.util.specs.Swap.{swap16}
 use borrow.Author.Needs.{needs}
-use Rattle.strip_put.proofs.swap.swap_u16.Statement.{statement}
-use Rattle.strip_put.proofs.swap.swap_u16.Tie as tie
+use Rattle.util.proofs.swap.swap_u16.Statement.{statement}
+use Rattle.util.proofs.swap.swap_u16.Tie as tie
 
 returns : tie.Need-returns
 unfolding swap16

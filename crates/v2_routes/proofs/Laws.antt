@@ -1,0 +1,8 @@
+-- How many TOS entries a body has at most.
+use Prim.Native.Nat.{ℕ, _+_, _*_, _≤_, _<_}
+use native.Mathlib.Nat.{mul-le-mul-left}
+use native.Mathlib.Omega.{arith}
+
+-- Each takes four bytes at least.
+pub few : (count n p size : ℕ) → p + count * n ≤ size → 4 ≤ n → size < 65536 → count < 16384
+few count n p size h k l = let m = mul-le-mul-left count k in omega arith
