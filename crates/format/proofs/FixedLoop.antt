@@ -14,6 +14,14 @@ use Rattle.format.proofs.Unique.{span}
 use Rattle.format.proofs.Loop.{Writing, Measuring, spread, begin, turn, room, finish, measure-begin, measure-turn, measure-room, measure-finish}
 use Rattle.format.proofs.Lists.{fixed-stands}
 
+-- Where an entry is still due, it lies in the body, and so do those after it.
+due : (n : ℕ) (b : List ℕ) (pos left : ℕ) → pos + left * n ≤ length b → 0 < left → (pos + n ≤ length b) × (pos + n + (left - 1) * n ≤ length b)
+due n b pos zero h l = absurd (not-suc-le-zero l)
+due n b pos (suc k) h l =
+    let m = suc-mul k n in
+    let q : suc k - 1 ≡ k = omega arith in
+    (omega arith, rw q (omega arith))
+
 -- The entries before pos are written, `left` more lie in the body, and the strip has room for all.
 pub record FixedWriting (n : ℕ) (f : Span → List Entry) (b : List ℕ) (count from : ℕ) (strip₀ : List ℕ) (at : ℕ) (strip : List ℕ) (a pos left : ℕ) : Type 0 where
   pub writing : Writing (fixedRule n) f b count from strip₀ at strip a pos left
@@ -34,18 +42,15 @@ module _ {n : ℕ} {f : Span → List Entry} {b : List ℕ} {count from : ℕ} {
   pub fixed-next : {strip : List ℕ} {a pos left : ℕ} → FixedWriting n f b count from strip₀ at strip a pos left → 0 < left
       → FixedNext n f b count from strip₀ at strip a pos left
   unfolding spread
-  fixed-next {left = zero} g h = absurd (not-suc-le-zero h)
-  fixed-next {pos = pos} {left = suc k} g h =
-      let m = suc-mul k n in
-      let l : pos + n ≤ length b = omega (arith, g .within) in
-      let e = fixed-stands n b pos l in
-      let q : suc k - 1 ≡ k = omega arith in
+  fixed-next {pos = pos} {left} g h =
+      let d = due n b pos left (g .within) h in
+      let e = fixed-stands n b pos (d .0) in
       record {
-        lies = l;
+        lies = d .0;
         fits = room (fixedRule n) f b count from strip₀ at n (g .writing) h e (g .enough);
         written = λ w. record {
           writing = turn (fixedRule n) f b count from strip₀ at n (g .writing) h e w;
-          within = rw q (omega (arith, g .within));
+          within = d .1;
           enough = g .enough;
         };
       }
@@ -74,16 +79,13 @@ module _ {n : ℕ} {f : Span → List Entry} {b : List ℕ} {count from : ℕ} w
   fixed-measure-begin h = record { measuring = measure-begin (fixedRule n) f b count from; within = h }
 
   pub fixed-measure-next : {total pos left : ℕ} → FixedMeasuring n f b count from total pos left → 0 < left → FixedSum n f b count from total pos left
-  fixed-measure-next {left = zero} g h = absurd (not-suc-le-zero h)
-  fixed-measure-next {pos = pos} {left = suc k} g h =
-      let m = suc-mul k n in
-      let l : pos + n ≤ length b = omega (arith, g .within) in
-      let e = fixed-stands n b pos l in
-      let q : suc k - 1 ≡ k = omega arith in
+  fixed-measure-next {pos = pos} {left} g h =
+      let d = due n b pos left (g .within) h in
+      let e = fixed-stands n b pos (d .0) in
       record {
-        lies = l;
+        lies = d .0;
         at-most = measure-room (fixedRule n) f b count from n (g .measuring) h e;
-        summed = record { measuring = measure-turn (fixedRule n) f b count from n (g .measuring) h e; within = rw q (omega (arith, g .within)) };
+        summed = record { measuring = measure-turn (fixedRule n) f b count from n (g .measuring) h e; within = d .1 };
       }
 
   pub fixed-measure-finish : {total pos left : ℕ} → FixedMeasuring n f b count from total pos left → left ≡ 0 → total ≡ length (spread f (cut (fixedRule n) b count from))

@@ -2,7 +2,7 @@ use Prim.Native.Nat.{ℕ, _+_, _*_, _≤_}
 use lib.ListN.{length}
 use mathlib.Core.List.{List, [], _∷_}
 use mathlib.Core.Path.{_≡_, sym, _∙_}
-use native.Mathlib.Nat.{mul-add, mul-le-mul}
+use native.Mathlib.Nat.{mul-add}
 use native.Mathlib.Omega.{arith}
 use borrow.Author.Needs.{needs}
 use Rattle.format.proofs.Lengths.{length-entries}
@@ -11,36 +11,15 @@ use Rattle.format.proofs.Loop.{spread}
 use Rattle.format.specs.Strip.{Entry, encode, metric24At}
 use Rattle.format.specs.Cut.{Span, cut, fixedRule}
 use Rattle.v2_router.proofs.Laws.{any-length, length-none}
-use Rattle.v2_routes.proofs.Laws.{few}
+use Rattle.v2_routes.proofs.Laws.{few, little}
 use Rattle.v2_routes.proofs.measure.measure_tos_metrics.Statement.{statement}
 use Rattle.v2_routes.proofs.measure.measure_tos_metrics.Tie as tie
-
-mul-result : tie.Need-mul-result
-mul-result c =
-    let s = c .before .before .args in
-    let f = few (s .count) (s .n) (s .p) (length (s .body .now)) (search needs) (search needs) (search needs) in
-    let m = mul-le-mul {n₁ = s .count} {m₁ = s .entry} {n₂ = 16383} {m₂ = 255} (omega arith) (omega arith) in
-    omega arith
-
-add-result : tie.Need-add-result
-add-result c =
-    let s = c .before .before .args in
-    let f = few (s .count) (s .n) (s .p) (length (s .body .now)) (search needs) (search needs) (search needs) in
-    let m = mul-le-mul {n₁ = s .count} {m₁ = s .entry} {n₂ = 16383} {m₂ = 255} (omega arith) (omega arith) in
-    omega arith
 
 returns : tie.Need-returns
 returns c =
     let s = c .before .before in
     let a = s .args in
     (λ i o f u. sym (length-none i f o (a .p) _ (fixed-cut (a .n) (a .body .now) (a .count) (a .p) (s .pre .0) .0 ∙ c .if1 .taken)), omega arith)
-
-add-result-2 : tie.Need-add-result-2
-add-result-2 c =
-    let s = c .before .before .before .args in
-    let f = few (s .count) (s .n) (s .p) (length (s .body .now)) (search needs) (search needs) (search needs) in
-    let m = mul-le-mul {n₁ = s .count} {m₁ = s .entry} {n₂ = 16383} {m₂ = 255} (omega arith) (omega arith) in
-    omega arith
 
 returns-2 : tie.Need-returns-2
 unfolding spread
@@ -60,4 +39,9 @@ returns-2 c =
 
 pub measure-tos-metrics-spec : {M : Type 1} → statement M
 measure-tos-metrics-spec = tie.close (tie.spec
-    returns mul-result add-result (λ c κs. search needs) add-result-2 returns-2)
+    returns
+    (λ c. let s = c .before .before .args in let f = few (s .count) (s .n) (s .p) (length (s .body .now)) (search needs) (search needs) (search needs) in omega (arith, little (s .count) (s .entry) f (search needs)))
+    (λ c. let s = c .before .before .args in let f = few (s .count) (s .n) (s .p) (length (s .body .now)) (search needs) (search needs) (search needs) in omega (arith, little (s .count) (s .entry) f (search needs)))
+    (λ c κs. search needs)
+    (λ c. let s = c .before .before .before .args in let f = few (s .count) (s .n) (s .p) (length (s .body .now)) (search needs) (search needs) (search needs) in omega (arith, little (s .count) (s .entry) f (search needs)))
+    returns-2)
