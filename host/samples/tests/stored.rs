@@ -23,6 +23,17 @@ fn check(name: &str, made: &[u8]) {
     assert!(write(samples) == stored, "{name} read and written again");
 }
 
+/// The call of a sample.
+fn call_of(sample: &Sample) -> Call<'_> {
+    Call {
+        version: sample.version,
+        walk: sample.walk,
+        data: &sample.data,
+        count: sample.count,
+        offset: sample.offset,
+    }
+}
+
 #[test]
 fn oracle_bin_is_made_again() {
     check("oracle.bin", &oracle_bin());
@@ -98,14 +109,7 @@ fn blocks_by_hand() {
     assert!(samples.iter().all(|s| s.answer.records == 0));
     for sample in &samples {
         let mut strip = vec![0; 75];
-        let call = Call {
-            version: sample.version,
-            walk: sample.walk,
-            data: &sample.data,
-            count: sample.count,
-            offset: sample.offset,
-        };
-        let answer = call.run().lend(&mut strip);
+        let answer = call_of(sample).run().lend(&mut strip);
         assert_eq!(answer, sample.answer);
         assert!(strip.starts_with(&sample.strip));
     }
@@ -190,14 +194,7 @@ fn every_room_of_a_block() {
 /// not stored after a refusal 5.
 fn places(sample: &Sample) -> Places {
     let mut places = Places::default();
-    let call = Call {
-        version: sample.version,
-        walk: sample.walk,
-        data: &sample.data,
-        count: sample.count,
-        offset: sample.offset,
-    };
-    if let Outcome::Accepted { strip, .. } = call.run() {
+    if let Outcome::Accepted { strip, .. } = call_of(sample).run() {
         places.count(sample.version, &strip);
     }
     places
