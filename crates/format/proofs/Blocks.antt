@@ -61,7 +61,7 @@ laid_block : (i : ℕ) (t : Layout) (r fixed : ℕ) (d : List ℕ) (o n : ℕ) �
     → Laid anything o (o + n) (container i o (o + n) (entries_at t d o 0 ++ (bytes r (o + fixed) (o + n) ∷ [])))
 laid_block i t r fixed d o n w v h =
     laid_container i o (o + n) refl (omega arith) (omega arith) (omega arith) (laid_append
-    (widen (omega arith) (omega arith) (weaken (λ x k. refl) (rows_first {c = []} {ms = []} {r = []} d o fixed t w v)))
+    (widen (omega arith) (omega arith) (weaken (λ x k. refl) (rows_first [] [] [] d o fixed t w v)))
     (field {lo = o} {hi = o + n} {x = bytes r (o + fixed) (o + n)} refl refl (omega arith) (omega arith) (omega arith) laid_none))
 
 -- A block with this fixed part and declared length, which stands there where `At` says so.

@@ -1,5 +1,5 @@
 -- The LS checksum is what it is claimed to be.
-use Prim.Native.Nat.{ℕ, suc, ◌+◌, ◌-◌, ◌*◌, ◌/◌, ◌%◌, ◌≤◌, ◌<◌}
+use Prim.Native.Nat.{ℕ, zero, suc, ◌+◌, ◌-◌, ◌*◌, ◌/◌, ◌%◌, ◌≤◌, ◌<◌}
 use native.Mathlib.Omega.{arith}
 use native.Mathlib.Nat.{zero-add}
 use mathlib.Core.Path.{◌≡◌, refl, sym, ap, ◌∙◌}
@@ -74,6 +74,8 @@ module _ (t w k u v : ℕ) where
   solves = go (octet_of_lem solved_first (omega arith)) (octet_of_lem solved_second (positive (k + 2) (255 - c0) (omega arith) (omega arith)))
     where
       positive : (m n : ℕ) → 0 < m → 0 < n → 0 < v + (m * n + c1)
+      positive zero n h i = absurd (omega arith)
+      positive (suc m) zero h i = absurd (omega arith)
       positive (suc m) (suc n) h i = omega arith
 
       go : {x y : ℕ} → OctetOf solved_first x → OctetOf solved_second y → Solution t w k x y

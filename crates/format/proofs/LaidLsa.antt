@@ -31,34 +31,34 @@ use Rattle.format.proofs.Rows.{Within, ids_fit, rows_laid, rows_first}
 use Rattle.format.proofs.Laid.{cut_inside, fixed_length, fixed_end, after-from, widen, laid_append, laid_container, laid_cond, laid_listing, laid_listing_if, weaken, only_more, among_cond, cond_same}
 
 -- Headers, and the items of lists, by the containers c, the metrics ms and the ranges r that are allowed.
-module _ {c ms r : List ℕ} (b : List ℕ) (o : ℕ) where
+module _ (c ms r : List ℕ) (b : List ℕ) (o : ℕ) where
   pub laid_header2 : ids_fit ms (instance_rows 5) ≡ true → ids_fit ms opaque_rows ≡ true → Laid (only c ms r) o (o + 20) (header_entries2 b o)
   unfolding header_entries2
   laid_header2 h k =
-      laid_append (rows_first b o 20 identity_rows2 (omega arith) refl)
-      (laid_append (rows_first b o 20 (instance_rows 5) (omega arith) h)
-      (laid_cond (is_opaque (get_or b 3 0)) (rows_first b o 20 opaque_rows (omega arith) k) none))
+      laid_append (rows_first _ _ _ b o 20 identity_rows2 (omega arith) refl)
+      (laid_append (rows_first _ _ _ b o 20 (instance_rows 5) (omega arith) h)
+      (laid_cond (is_opaque (get_or b 3 0)) (rows_first _ _ _ b o 20 opaque_rows (omega arith) k) none))
 
   pub laid_header3 : ids_fit ms identity_rows3 ≡ true → ids_fit ms (instance_rows 4) ≡ true → Laid (only c ms r) o (o + 20) (header_entries3 b o)
   unfolding header_entries3
-  laid_header3 h k = laid_append (rows_first b o 20 identity_rows3 (omega arith) h) (rows_first b o 20 (instance_rows 4) (omega arith) k)
+  laid_header3 h k = laid_append (rows_first _ _ _ b o 20 identity_rows3 (omega arith) h) (rows_first _ _ _ b o 20 (instance_rows 4) (omega arith) k)
 
   laid_attached : (p n : ℕ) → fixed_rule 4 b p ≡ some n → Laid (only c ms r) (o + p) (o + p + n) (attached_router b o (span p n))
   unfolding attached_router
-  laid_attached p n e = let q = fixed_length 4 b p n e in rows_laid b o p 4 attached_router_rows (omega arith) refl (omega arith) (omega arith)
+  laid_attached p n e = let q = fixed_length 4 b p n e in rows_laid b o p _ _ _ 4 attached_router_rows (omega arith) refl (omega arith) (omega arith)
 
   -- an object of one length around the fields of a table
   laid_object : (i m : ℕ) (t : Layout) → Within m t → ids_fit ms t ≡ true → among c i ≡ true → (p n : ℕ) → fixed_rule m b p ≡ some n
       → Laid (only c ms r) (o + p) (o + p + n) (container i (o + p) (o + p + m) (entries_at t b o p))
   laid_object i m t w v h p n e =
       let q = fixed_length m b p n e in
-      laid_container _ _ _ h (omega arith) (omega arith) (omega arith) (rows_laid b o p m t w v (omega arith) (omega arith))
+      laid_container _ _ _ h (omega arith) (omega arith) (omega arith) (rows_laid b o p _ _ _ m t w v (omega arith) (omega arith))
 
   pub laid_prefix_inside : (m : Bool) (s : Span) → Laid (only c ms r) (o + s.at) (o + (s.at + 4) + (s.len - 4)) (v3.prefix_inside m b o s)
   laid_prefix_inside m s =
-      laid_append (rows_laid b o s.at 4 v3.prefix_rows (omega arith) refl (omega arith) (omega arith))
-      (laid_append (laid_cond m (rows_laid b o s.at 4 v3.prefix_metric_rows (omega arith) refl (omega arith) (omega arith)) none)
-      (rows_laid b o s.at (4 + (s.len - 4)) (v3.prefix_address_rows (s.len - 4)) (omega arith) refl (omega arith) (omega arith)))
+      laid_append (rows_laid b o s.at _ _ _ 4 v3.prefix_rows (omega arith) refl (omega arith) (omega arith))
+      (laid_append (laid_cond m (rows_laid b o s.at _ _ _ 4 v3.prefix_metric_rows (omega arith) refl (omega arith) (omega arith)) none)
+      (rows_laid b o s.at _ _ _ (4 + (s.len - 4)) (v3.prefix_address_rows (s.len - 4)) (omega arith) refl (omega arith) (omega arith)))
 
   module _ (h : among c 97 ≡ true) where
     laid_link-tos : ids_fit ms v2.link_tos_rows ≡ true → (p n : ℕ) → fixed_rule 4 b p ≡ some n → Laid (only c ms r) (o + p) (o + p + n) (v2.link_tos b o (span p n))
@@ -77,7 +77,7 @@ module _ {c ms r : List ℕ} (b : List ℕ) (o : ℕ) where
     pub laid_link_inside : ids_fit ms v2.link_tos_rows ≡ true → among c 69 ≡ true → (s : Span) → Laid (only c ms r) (o + s.at) (o + after (s.at + 12) (v2.link_tos_spans b s.at)) (v2.link_inside b o s)
     laid_link_inside v k s =
         let a = after-from (v2.link_tos_spans b s.at) (s.at + 12) in
-        laid_append (rows_laid b o s.at 12 v2.link_rows (omega arith) refl (omega arith) (omega arith))
+        laid_append (rows_laid b o s.at _ _ _ 12 v2.link_rows (omega arith) refl (omega arith) (omega arith))
         (laid_listing_if _ _ _ _ _ _ _ (λ t e. k) (omega arith) (omega arith) (laid_link-tos v))
 
     -- a link that stands has room for its TOS metrics
@@ -106,7 +106,7 @@ data BodyLaid (tlvs : ℕ) (b : List ℕ) (o : ℕ) (c ms : List ℕ) : Body →
   is : {es es' : List Entry} {n : ℕ} → n ≤ length b → Laid (only c ms []) o (o + n) es → BodyLaid tlvs b o c ms (decoded es n) (decoded es' n)
   is_tlvs : {es es' : List Entry} (s : ℕ) → o ≤ s → s ≤ o + length b → Laid (only c ms []) o s es
       → BodyLaid tlvs b o c ms (decoded (es ++ (bytes tlvs s (o + length b) ∷ [])) (length b)) (decoded es' (length b))
-  is_raw_lem : BodyLaid tlvs b o c ms raw raw
+  is_raw : BodyLaid tlvs b o c ms raw raw
 
 -- A choice between two bodies, with their own containers, metrics or both, or the same ones; and a body that is raw below a
 -- least length.
@@ -135,7 +135,7 @@ module _ {tlvs : ℕ} {b : List ℕ} {o : ℕ} where
   at_least n {c} {ms} {x} {x'} h = go (ltb (length b) n) refl
     where
       go : (t : Bool) → ltb (length b) n ≡ t → BodyLaid tlvs b o (cond t [] c) ms (cond t raw x) (cond t raw x')
-      go true e = is_raw_lem
+      go true e = is_raw
       go false e = h (ltb-false (length b) n e)
 
   -- the same where the containers are those of a choice around it
@@ -143,7 +143,7 @@ module _ {tlvs : ℕ} {b : List ℕ} {o : ℕ} where
   raw_below n {c} {ms} {x} {x'} h = go (ltb (length b) n) refl
     where
       go : (t : Bool) → ltb (length b) n ≡ t → BodyLaid tlvs b o c ms (cond t raw x) (cond t raw x')
-      go true e = is_raw_lem
+      go true e = is_raw
       go false e = h (ltb-false (length b) n e)
 
   -- the fields of a table up to a place, and the array of a list from there on
@@ -154,13 +154,13 @@ module _ {tlvs : ℕ} {b : List ℕ} {o : ℕ} where
     is_listed =
         let a = after-from (cut (standing least declared) b k p) p in
         is (cut_inside least declared b k p h)
-        (laid_append (rows_laid b o 0 p t in-front met (omega arith) (omega arith)) (laid_listing i o p f (standing least declared) b k (λ s e. g) (omega arith) (omega arith) items))
+        (laid_append (rows_laid b o 0 _ _ [] p t in-front met (omega arith) (omega arith)) (laid_listing i o p f (standing least declared) b k (λ s e. g) (omega arith) (omega arith) items))
 
     is_listed_if : let ss = cut (standing least declared) b k p in BodyLaid tlvs b o c ms (decoded (entries_at t b o 0 ++ listing_if_any i f o p ss) (after p ss)) (decoded es' (after p ss))
     is_listed_if =
         let a = after-from (cut (standing least declared) b k p) p in
         is (cut_inside least declared b k p h)
-        (laid_append (rows_laid b o 0 p t in-front met (omega arith) (omega arith)) (laid_listing_if i o p f (standing least declared) b k (λ s e. g) (omega arith) (omega arith) items))
+        (laid_append (rows_laid b o 0 _ _ [] p t in-front met (omega arith) (omega arith)) (laid_listing_if i o p f (standing least declared) b k (λ s e. g) (omega arith) (omega arith) items))
 
 -- The bodies of version 2, at the places o and q.
 module _ (b : List ℕ) (o q : ℕ) where
@@ -169,23 +169,23 @@ module _ (b : List ℕ) (o q : ℕ) where
 
   router2 : Laid2 (from 4 (length b) (16 ∷ 96 ∷ 69 ∷ 97 ∷ [])) [] v2.router_lsa2
   unfolding v2.router_lsa2
-  router2 = at_least _ (λ h. is_listed v2.router_rows _ _ _ _ _ _ (omega arith) refl refl h (laid_link2 b o refl refl refl refl))
+  router2 = at_least _ (λ h. is_listed v2.router_rows _ _ _ _ _ _ (omega arith) refl refl h (laid_link2 (16 ∷ 96 ∷ 69 ∷ 97 ∷ []) [] [] b o refl refl refl refl))
 
   network2 : Laid2 (from 4 (length b) (18 ∷ [])) [] v2.network_lsa2
   unfolding v2.network_lsa2 whole
-  network2 = at_least _ (λ h. is_listed v2.network_rows _ _ _ _ _ _ (omega arith) refl refl h (laid_attached b o))
+  network2 = at_least _ (λ h. is_listed v2.network_rows _ _ _ _ _ _ (omega arith) refl refl h (laid_attached (18 ∷ []) [] [] b o))
 
   summary : Laid2 (from 8 (length b) (20 ∷ 97 ∷ [])) (19 ∷ 82 ∷ []) v2.summary_lsa
   unfolding v2.summary_lsa whole
-  summary = at_least _ (λ h. is_listed_if v2.summary_rows _ _ _ _ _ _ (omega arith) refl refl h (laid_summary_tos b o refl refl))
+  summary = at_least _ (λ h. is_listed_if v2.summary_rows _ _ _ _ _ _ (omega arith) refl refl h (laid_summary_tos (20 ∷ 97 ∷ []) (19 ∷ 82 ∷ []) [] b o refl refl))
 
   external2 : Laid2 (from 16 (length b) (20 ∷ 97 ∷ [])) (19 ∷ 82 ∷ []) v2.external_lsa2
   unfolding v2.external_lsa2 whole
-  external2 = at_least _ (λ h. is_listed_if v2.external_rows _ _ _ _ _ _ (omega arith) refl refl h (laid_external_tos b o refl refl))
+  external2 = at_least _ (λ h. is_listed_if v2.external_rows _ _ _ _ _ _ (omega arith) refl refl h (laid_external_tos (20 ∷ 97 ∷ []) (19 ∷ 82 ∷ []) [] b o refl refl))
 
   opaque : {c : List ℕ} (u : ℕ) → Laid2 c [] (v2.opaque_lsa u)
   unfolding v2.opaque_lsa
-  opaque u = same (v2.opaque_has_tlvs u) (is_tlvs {es = []} o (omega arith) (omega arith) none) is_raw_lem
+  opaque u = same (v2.opaque_has_tlvs u) (is_tlvs {es = []} o (omega arith) (omega arith) none) is_raw
 
   laid_body2 : (t u : ℕ) → Laid2 (containers2 t (length b)) (metrics2 t) (v2.body2 t u)
   unfolding v2.body2
@@ -198,7 +198,7 @@ module _ (b : List ℕ) (o q : ℕ) where
       (choice_both (eqb t 7) external2
       (same (eqb t 9) (opaque u)
       (same (eqb t 10) (opaque u)
-      (same (eqb t 11) (opaque u) is_raw_lem))))))))
+      (same (eqb t 11) (opaque u) is_raw))))))))
 
 -- The bodies of version 3.
 module _ (b : List ℕ) (o q : ℕ) where
@@ -207,11 +207,11 @@ module _ (b : List ℕ) (o q : ℕ) where
 
   router3 : Laid3 (from 4 (length b) (15 ∷ 96 ∷ [])) [] v3.router_lsa3
   unfolding v3.router_lsa3 whole
-  router3 = at_least _ (λ h. is_listed v3.router_rows _ _ _ _ _ _ (omega arith) refl refl h (laid_link3 b o refl refl))
+  router3 = at_least _ (λ h. is_listed v3.router_rows _ _ _ _ _ _ (omega arith) refl refl h (laid_link3 (15 ∷ 96 ∷ []) [] [] b o refl refl))
 
   network3 : Laid3 (from 4 (length b) (16 ∷ [])) [] v3.network_lsa3
   unfolding v3.network_lsa3 whole
-  network3 = at_least _ (λ h. is_listed v3.network_rows _ _ _ _ _ _ (omega arith) refl refl h (laid_attached b o))
+  network3 = at_least _ (λ h. is_listed v3.network_rows _ _ _ _ _ _ (omega arith) refl refl h (laid_attached (16 ∷ []) [] [] b o))
 
   inter_area_prefix : {c : List ℕ} → Laid3 c (17 ∷ []) v3.inter_area_prefix_lsa
   unfolding v3.inter_area_prefix_lsa
@@ -220,24 +220,24 @@ module _ (b : List ℕ) (o q : ℕ) where
       go : (x : Option ℕ) → v3.fixed_prefix_fits b ≡ x → BodyLaid 32 b o c (17 ∷ [])
           (elim x [ nothing ↦ raw | some n ↦ decoded (entries_at (v3.inter_area_prefix_rows n) b o 0) (8 + n) ])
           (elim x [ nothing ↦ raw | some n ↦ decoded (entries_at (v3.inter_area_prefix_rows n) b q 0) (8 + n) ])
-      go nothing e = is_raw_lem
-      go (some n) e = is (fits_inside b (get_or b 4 0) 8 n e).0 (rows_first b o (8 + n) (v3.inter_area_prefix_rows n) (omega arith) refl)
+      go nothing e = is_raw
+      go (some n) e = is (fits_inside b (get_or b 4 0) 8 n e).0 (rows_first c (17 ∷ []) [] b o (8 + n) (v3.inter_area_prefix_rows n) (omega arith) refl)
 
   inter_area_router : {c : List ℕ} → Laid3 c (17 ∷ []) v3.inter_area_router_lsa
   unfolding v3.inter_area_router_lsa
-  inter_area_router = raw_below _ (λ h. is h (rows_first b o 12 v3.inter_area_router_rows (omega arith) refl))
+  inter_area_router {c} = raw_below _ (λ h. is h (rows_first c (17 ∷ []) [] b o 12 v3.inter_area_router_rows (omega arith) refl))
 
   link_lsa_lem : Laid3 (from 24 (length b) (29 ∷ 97 ∷ [])) [] v3.link_lsa
   unfolding v3.link_lsa
-  link_lsa_lem = at_least _ (λ h. is_listed v3.link_lsa_rows _ _ _ _ _ _ (omega arith) refl refl h (laid_prefix b o refl false))
+  link_lsa_lem = at_least _ (λ h. is_listed v3.link_lsa_rows _ _ _ _ _ _ (omega arith) refl refl h (laid_prefix (29 ∷ 97 ∷ []) [] [] b o refl false))
 
   intra_area_prefix : Laid3 (from 12 (length b) (29 ∷ 97 ∷ [])) [] v3.intra_area_prefix_lsa
   unfolding v3.intra_area_prefix_lsa
-  intra_area_prefix = at_least _ (λ h. is_listed v3.intra_area_prefix_rows _ _ _ _ _ _ (omega arith) refl refl h (laid_prefix b o refl true))
+  intra_area_prefix = at_least _ (λ h. is_listed v3.intra_area_prefix_rows _ _ _ _ _ _ (omega arith) refl refl h (laid_prefix (29 ∷ 97 ∷ []) [] [] b o refl true))
 
   tlv_lsa_lem : {c : List ℕ} (n : ℕ) (t : Layout) → Within n t → ids_fit [] t ≡ true → BodyLaid 32 b o c [] (v3.tlv_lsa n (entries_at t b o 0) b o) (v3.tlv_lsa n (entries_at t b q 0) b q)
   unfolding v3.tlv_lsa
-  tlv_lsa_lem n t w v = raw_below _ (λ h. is_tlvs (o + n) (omega arith) (omega arith) (rows_first b o n t w v))
+  tlv_lsa_lem {c} n t w v = raw_below _ (λ h. is_tlvs (o + n) (omega arith) (omega arith) (rows_first c [] [] b o n t w v))
 
   external3 : {c : List ℕ} → Laid3 c (17 ∷ []) v3.external_lsa3
   unfolding v3.external_lsa3
@@ -248,13 +248,13 @@ module _ (b : List ℕ) (o q : ℕ) where
 
       -- n bytes that are there where the test says so
       optional : (t : Bool) (n : ℕ) (rows : Layout) (p hi : ℕ) → Within n rows → ids_fit (17 ∷ []) rows ≡ true → p + cond t n 0 ≤ hi → Laid (only c (17 ∷ []) []) o (o + hi) (cond t (entries_at rows b o p) [])
-      optional true n rows p hi w v l = rows_laid b o p n rows w v (omega arith) (omega arith)
+      optional true n rows p hi w v l = rows_laid b o p c (17 ∷ []) [] n rows w v (omega arith) (omega arith)
       optional false n rows p hi w v l = none
 
       laid : (n : ℕ) → Laid (only c (17 ∷ []) []) o (o + v3.external_end b n) (fields o n)
       laid n =
-          laid_append (rows_first b o (v3.external_end b n) v3.external_flag_rows (omega arith) refl)
-          (laid_append (rows_first b o (v3.external_end b n) (v3.external_prefix_rows n) (omega arith) refl)
+          laid_append (rows_first c (17 ∷ []) [] b o (v3.external_end b n) v3.external_flag_rows (omega arith) refl)
+          (laid_append (rows_first c (17 ∷ []) [] b o (v3.external_end b n) (v3.external_prefix_rows n) (omega arith) refl)
           (laid_append (optional (v3.has_forwarding b) 16 v3.forwarding_rows _ _ (omega arith) refl (omega arith))
           (laid_append (optional (v3.has_tag b) 4 v3.tag_rows _ _ (omega arith) refl (omega arith))
           (optional (v3.has_reference b) 4 v3.referenced_rows _ _ (omega arith) refl (omega arith)))))
@@ -262,7 +262,7 @@ module _ (b : List ℕ) (o q : ℕ) where
       go : (x : Option ℕ) → BodyLaid 32 b o c (17 ∷ [])
           (elim x [ nothing ↦ raw | some n ↦ cond (ltb (length b) (v3.external_end b n)) raw (decoded (fields o n) (v3.external_end b n)) ])
           (elim x [ nothing ↦ raw | some n ↦ cond (ltb (length b) (v3.external_end b n)) raw (decoded (fields q n) (v3.external_end b n)) ])
-      go nothing = is_raw_lem
+      go nothing = is_raw
       go (some n) = raw_below (v3.external_end b n) (λ h. is h (laid n))
 
   laid_body3 : (f : ℕ) → Laid3 (containers3 f (length b)) (metrics3 f) (v3.body3 f)
@@ -285,7 +285,7 @@ module _ (b : List ℕ) (o q : ℕ) where
       (same (eqb f 39) (tlv_lsa_lem 0 [] (omega arith) refl)
       (same (eqb f 40) (tlv_lsa_lem 4 v3.e_link_rows (omega arith) refl)
       (same (eqb f 41) (tlv_lsa_lem 12 v3.reference_rows (omega arith) refl)
-      (same (eqb f 42) (tlv_lsa_lem 0 [] (omega arith) refl) is_raw_lem)))))))))))))))))
+      (same (eqb f 42) (tlv_lsa_lem 0 [] (omega arith) refl) is_raw)))))))))))))))))
 
 -- A body's entries with what is left of it, and its tail.
 body_ends : {tlvs : ℕ} {b : List ℕ} {o : ℕ} {c ms : List ℕ} {x x' : Body} (w : List ℕ) (r u : ℕ) → among w tlvs ≡ true → among w r ≡ true → BodyLaid tlvs b o c ms x x'
@@ -297,7 +297,7 @@ body_ends {b = b} {o = o} {c = c} {ms = ms} w r u h k (is {es = es} {n = n} i l)
     go true e = let a = ltb-true n (length b) e in unparsed_left es (o + n) refl l (omega arith) (omega arith) (omega arith)
     go false e = let a = ltb-false n (length b) e in nothing_left (rw append-nil (widen (omega arith) (omega arith) l)) (omega arith)
 body_ends {tlvs} {b} {o} {c} {ms} w r u h k (is_tlvs {es = es} s f t l) = rw (le-ltb (length b) (length b) (omega arith), append-nil) (raw-or-tlvs es tlvs s h refl l f t (omega arith))
-body_ends {b = b} {o = o} {c = c} {ms = ms} w r u h k is_raw_lem = go (ltb 0 (length b))
+body_ends {b = b} {o = o} {c = c} {ms = ms} w r u h k is_raw = go (ltb 0 (length b))
   where
     go : (t : Bool) → Ending c ms w u o (o + length b) (cond t (bytes r (o + 0) (o + length b) ∷ []) []) 0
     go true = raw-or-tlvs [] r (o + 0) k refl none (omega arith) (omega arith) refl
@@ -322,8 +322,8 @@ lsa_ends v d o = go (eqb v 2)
 
     go : (t : Bool) → Ending (cond t (containers2 (get_or d 3 0) (length b)) (containers3 (be16_at d 2 % 8192) (length b))) (cond t (metrics2 (get_or d 3 0)) (metrics3 (be16_at d 2 % 8192))) (cond t (23 ∷ 24 ∷ []) (31 ∷ 32 ∷ [])) (cond t 25 33)
         o (o + 20 + length b) (cond t (v2.lsa_entries2 d o) (v3.lsa_entries3 d o)) (cond t (v2.lsa_tail2 d) (v3.lsa_tail3 d))
-    go true = after_front (laid_header2 d o (simp (among_cond, cond_same)) (simp (among_cond, cond_same))) (omega arith) (omega arith) (body_ends _ 23 25 refl refl (laid_body2 b (o + 20) 20 (get_or d 3 0) (get_or d 4 0)))
-    go false = after_front (laid_header3 d o (simp (among_cond, cond_same)) (simp (among_cond, cond_same))) (omega arith) (omega arith) (body_ends _ 31 33 refl refl (laid_body3 b (o + 20) 20 (be16_at d 2 % 8192)))
+    go true = after_front (laid_header2 (containers2 (get_or d 3 0) (length b)) (metrics2 (get_or d 3 0)) [] d o (simp (among_cond, cond_same)) (simp (among_cond, cond_same))) (omega arith) (omega arith) (body_ends _ 23 25 refl refl (laid_body2 b (o + 20) 20 (get_or d 3 0) (get_or d 4 0)))
+    go false = after_front (laid_header3 (containers3 (be16_at d 2 % 8192) (length b)) (metrics3 (be16_at d 2 % 8192)) [] d o (simp (among_cond, cond_same)) (simp (among_cond, cond_same))) (omega arith) (omega arith) (body_ends _ 31 33 refl refl (laid_body3 b (o + 20) 20 (be16_at d 2 % 8192)))
 
 -- Entries that end so are laid out.
 or_else : (t : Bool) {x : Bool} → x ≡ true → cond t true x ≡ true

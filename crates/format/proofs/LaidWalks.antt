@@ -47,7 +47,7 @@ laid_headers v d o = laid_outer [] v (header_object v d o) d o 20 _ _ 0 (omega a
         let l = (inside 20 _ d q n e).enough in
         laid_container _ _ _ refl (omega arith) (omega arith) (omega arith)
         (widen (omega arith) (omega arith) (weaken (only_unreachable [] [] [] [] (λ i h. h))
-        (laid_cond (eqb v 2) (laid_header2 {c = []} {ms = []} {r = []} (part d q n) (o + q) refl refl) (laid_header3 (part d q n) (o + q) refl refl))))
+        (laid_cond (eqb v 2) (laid_header2 [] [] [] (part d q n) (o + q) refl refl) (laid_header3 [] [] [] (part d q n) (o + q) refl refl))))
 
 -- Those of an update have ids of metrics.
 pub laid_update : (v : ℕ) (d : List ℕ) (count o : ℕ) → 4 ≤ length d → Laid (unreachable_only (metric_ids v)) o (o + length d) (outer v (lsa_object v d o) d o 4 (lsas d count))
@@ -59,7 +59,7 @@ laid_update v d count o h = laid_outer (metric_ids v) v (lsa_object v d o) d o 2
         let i = inside 20 _ d q n e in
         let m = part_length d q n i.within in
         laid_container _ _ _ refl (omega arith) (omega arith) (omega arith)
-        (widen (omega arith) (omega arith) (weaken (only_unreachable _ _ _ _ (of_version v (part d q n))) (laid_lsa v (part d q n) (o + q) (omega (arith, i.enough)))))
+        (widen (omega arith) (omega arith) (weaken (only_unreachable (containers v (part d q n)) (metrics v (part d q n)) (metric_ids v) (unparsed v ∷ raw_or_tlvs v) (of_version v (part d q n))) (laid_lsa v (part d q n) (o + q) (omega (arith, i.enough)))))
 
 -- How the entries of an LSA end, in its own data.
 pub lsa_ending : (v : ℕ) (d : List ℕ) (o : ℕ) → 20 ≤ length d → Ending (containers v d) (metrics v d) (raw_or_tlvs v) (unparsed v) o (o + length d) (lsa_entries v d o) (lsa_tail v d)

@@ -20,17 +20,17 @@ below i = ltb i 112
 
 -- headers, for any test of ids, since they have no container
 pub nested_header2 : (ok : ℕ → Bool) (b : List ℕ) (o : ℕ) → Nested ok (header_entries2 b o)
-nested_header2 ok b o = laid_nested [] [] [] (λ i. all_among ok [] i refl) (laid_header2 b o refl refl)
+nested_header2 ok b o = laid_nested [] [] [] (λ i. all_among ok [] i refl) (laid_header2 [] [] [] b o refl refl)
 
 pub nested_header3 : (ok : ℕ → Bool) (b : List ℕ) (o : ℕ) → Nested ok (header_entries3 b o)
-nested_header3 ok b o = laid_nested [] [] [] (λ i. all_among ok [] i refl) (laid_header3 b o refl refl)
+nested_header3 ok b o = laid_nested [] [] [] (λ i. all_among ok [] i refl) (laid_header3 [] [] [] b o refl refl)
 
 -- What is inside a link of version 2, and inside a prefix of version 3.
 pub nested_link_inside : (ok : ℕ → Bool) → ok 69 ≡ true → ok 97 ≡ true → (b : List ℕ) (o : ℕ) (s : Span) → Nested ok (link_inside b o s)
-nested_link_inside ok h k b o s = laid_nested (69 ∷ 97 ∷ []) [] [] (λ i. all_among ok (69 ∷ 97 ∷ []) i (rw (h, k))) (laid_link_inside b o refl refl refl s)
+nested_link_inside ok h k b o s = laid_nested (69 ∷ 97 ∷ []) [] [] (λ i. all_among ok (69 ∷ 97 ∷ []) i (rw (h, k))) (laid_link_inside (69 ∷ 97 ∷ []) [] [] b o refl refl refl s)
 
 pub nested_prefix_inside : (ok : ℕ → Bool) (m : Bool) (b : List ℕ) (o : ℕ) (s : Span) → Nested ok (prefix_inside m b o s)
-nested_prefix_inside ok m b o s = laid_nested [] [] [] (λ i. all_among ok [] i refl) (laid_prefix_inside b o m s)
+nested_prefix_inside ok m b o s = laid_nested [] [] [] (λ i. all_among ok [] i refl) (laid_prefix_inside [] [] [] b o m s)
 
 -- The containers of an LSA have ids below those of the walks'.
 containers_below : (v : ℕ) (d : List ℕ) → all below (containers v d) ≡ true

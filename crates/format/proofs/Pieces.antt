@@ -143,13 +143,13 @@ begin input before h =
 
 module _ (text s : List ℕ) (room : ℕ) (m : 160 ≤ room) where
   -- The pieces from a place on are what is left of the text.
-  pieces_left : (p written : ℕ) (ts : List (List ℕ)) → Left text written s p → Pieces room s p ts → flatten ts ≡ drop written text
+  pieces_left : (p written : ℕ) → Left text written s p → (ts : List (List ℕ)) → Pieces room s p ts → flatten ts ≡ drop written text
   unfolding flatten
-  pieces_left p w [] l (ends h) = sym (finish text w s p room m l h)
-  pieces_left p w (_ ∷ ts) l (goes h r) =
+  pieces_left p w l _ (ends h) = sym (finish text w s p room m l h)
+  pieces_left p w l _ (goes {ts = ts} h r) =
       let c = turn text w s p room l in
       let t = (lines_at room s p).text in
-      ap (λ (u : List ℕ). t ++ u) (pieces_left (lines_at room s p).next (w + length t) ts c.1 r)
+      ap (λ (u : List ℕ). t ++ u) (pieces_left (lines_at room s p).next (w + length t) c.1 ts r)
       ∙ ap (λ (u : List ℕ). u ++ drop (w + length t) text) c.0
       ∙ rw (← drop-drop) (take-append-drop (length t) (drop w text))
 
@@ -181,9 +181,10 @@ module _ (input before : List ℕ) (buffer : length before ≡ 65536) (room : �
   -- The pieces one after another are the program's text.
   pub pieces_print : (ps : List (List ℕ)) → Row room (answer_of (program_of input) 65536) (strip_of (program_of input) before) ps → flatten ps ≡ printed input
   unfolding flatten printed
+  pieces_print [] r = elim r [ ]
   pieces_print (_ ∷ ts) (row r) =
       let first = first_line (answer_of (program_of input) 65536) in
-      ap (λ (t : List ℕ). first ++ t) (pieces_left (printed input) _ room m 0 (length first) ts (begin input before buffer) r ∙ drop-append_seam first _)
+      ap (λ (t : List ℕ). first ++ t) (pieces_left (printed input) _ room m 0 (length first) (begin input before buffer) ts r ∙ drop-append_seam first _)
 
   -- They come to an end.
   pub pieces_come : (ps : List (List ℕ)) × Row room (answer_of (program_of input) 65536) (strip_of (program_of input) before) ps
@@ -195,6 +196,7 @@ module _ (input before : List ℕ) (buffer : length before ≡ 65536) (room : �
 pub refused_alone : (input before : List ℕ) (room : ℕ) → ((answer_of (program_of input) 65536).number ≡ 0 → ⊥)
     → (ps : List (List ℕ)) → Row room (answer_of (program_of input) 65536) (strip_of (program_of input) before) ps → ps ≡ first_line (answer_of (program_of input) 65536) ∷ []
 unfolding shown_part
+refused_alone input before room h [] r = elim r [ ]
 refused_alone input before room h (_ ∷ ts) (row r) =
     ap (λ (us : List (List ℕ)). first_line (answer_of (program_of input) 65536) ∷ us)
     (no_pieces room ts (rw (ne_eqb (answer_of (program_of input) 65536).number 0 h) at r))

@@ -103,16 +103,16 @@ module _ (b : List ℕ) (o p : ℕ) where
   rows_nested ok (row k f i ∷ rs) = nested_field (row_is k i f).0 (rows_nested ok rs)
 
   -- a table in a record of n bytes
-  pub rows_laid : {c ms r : List ℕ} {lo hi : ℕ} (n : ℕ) (t : Layout) → Within n t → ids_fit ms t ≡ true → lo ≤ o + p → o + p + n ≤ hi → Laid (only c ms r) lo hi (entries_at t b o p)
-  rows_laid n [] h w l m = none
-  rows_laid {c} {ms} {r} {lo} {hi} n (row k f i ∷ rs) h w l m =
+  pub rows_laid : (c ms r : List ℕ) {lo hi : ℕ} (n : ℕ) (t : Layout) → Within n t → ids_fit ms t ≡ true → lo ≤ o + p → o + p + n ≤ hi → Laid (only c ms r) lo hi (entries_at t b o p)
+  rows_laid c ms r n [] h w l m = none
+  rows_laid c ms r {lo} {hi} n (row k f i ∷ rs) h w l m =
       let x = row_is k i f in
       let q = from_place p k in
       let s = x.2 in
       let e = x.3 in
       let v = both (id_fits ms f i) (ids_fit ms rs) w in
-      field {lo = lo} {hi = hi} {x = entry_of b o p (row k f i)} x.0 (x.1 c ms r v.0) (omega arith) (omega arith) (omega (arith, h.0)) (rows_laid n rs h.1 v.1 l m)
+      field {lo = lo} {hi = hi} {x = entry_of b o p (row k f i)} x.0 (x.1 c ms r v.0) (omega arith) (omega arith) (omega (arith, h.0)) (rows_laid c ms r n rs h.1 v.1 l m)
 
 -- The same at the front of its bytes.
-pub rows_first : {c ms r : List ℕ} (b : List ℕ) (o n : ℕ) (t : Layout) → Within n t → ids_fit ms t ≡ true → Laid (only c ms r) o (o + n) (entries_at t b o 0)
-rows_first b o n t h w = rows_laid b o 0 n t h w (omega arith) (omega arith)
+pub rows_first : (c ms r : List ℕ) (b : List ℕ) (o n : ℕ) (t : Layout) → Within n t → ids_fit ms t ≡ true → Laid (only c ms r) o (o + n) (entries_at t b o 0)
+rows_first c ms r b o n t h w = rows_laid b o 0 c ms r n t h w (omega arith) (omega arith)

@@ -18,7 +18,7 @@ use Rattle.format.specs.Layout.Field.{u8, bit, low_bits, u16, wide16, u24, metri
 use Rattle.format.specs.Layout.Row.{row}
 use Rattle.format.specs.Walks.{lsa_entries}
 use Rattle.format.specs.Laid.{Laid, among, passes, only, reaches, unreachable_only}
-use Rattle.format.specs.Lists.{metric_ids, metrics2, metrics3, metrics}
+use Rattle.format.specs.Lists.{metric_ids, metrics2, metrics3, metrics, unparsed, raw_or_tlvs}
 use Rattle.format.specs.Unreachable.{Bytes, AllOnes, MetricShown, MetricsShown}
 use Rattle.format.proofs.Laid.{laid_member, all_among, all_cond, cond_same}
 use Rattle.format.proofs.LaidLsa.{laid_any}
@@ -72,8 +72,8 @@ pub unreachable_passes : {has : Entry → Bool} {lo hi i s e : ℕ} {es : List E
 unreachable_passes {i = i} {s} {e} l m = (laid_member (unreachable i s e) (not_closes (unreachable i s e) (λ z. omega arith)) l m).passes
 
 -- What the test of an LSA's entries says of its metrics.
-laid_metrics : {c ms r : List ℕ} {lo hi : ℕ} {es : List Entry} → Laid (only c ms r) lo hi es → MetricsShown ms es
-laid_metrics {ms = ms} l = record {
+laid_metrics : (c ms r : List ℕ) {lo hi : ℕ} {es : List Entry} → Laid (only c ms r) lo hi es → MetricsShown ms es
+laid_metrics c ms r l = record {
   unreachable_ids = λ i s e m. unreachable_passes l m;
   no_infinity = λ i s e n m k q.
       let t = rw (k, eq-eqb n 16777215 q) at (laid_member (number i s e n) (not_closes (number i s e n) (λ z. omega arith)) l m).passes in
@@ -82,7 +82,7 @@ laid_metrics {ms = ms} l = record {
 }
 
 pub metrics_shown : (v : ℕ) (d : List ℕ) (o : ℕ) → MetricsShown (metrics v d) (lsa_entries v d o)
-metrics_shown v d o = laid_metrics (laid_any v d o)
+metrics_shown v d o = laid_metrics _ _ (unparsed v ∷ raw_or_tlvs v) (laid_any v d o)
 
 -- The metrics of an LSA have ids of metrics of its version.
 pub of_version : (v : ℕ) (d : List ℕ) (i : ℕ) → among (metrics v d) i ≡ true → among (metric_ids v) i ≡ true
