@@ -1,5 +1,7 @@
 // What the LSA bodies of both versions share: the answers of a body's functions, the flags of a router, the array of
 // attached routers, and the bytes that are left of a body.
+#![tactic(auto)]
+
 ghost use Rattle.std.specs.Prelude.{◌≡◌, ℕ, ◌+◌, ◌-◌, ◌*◌, ◌≤◌, ◌<◌, length};
 ghost use mathlib.Core.List.{flat_map};
 ghost use Rattle.format.specs.Strip.{encode};

@@ -1,4 +1,6 @@
 // The LS checksum (RFC 2328 12.1.7): whether that of an LSA is right, and its making.
+#![tactic(auto)]
+
 ghost use Rattle.std.specs.Prelude.{◌≡◌, ◌+◌, ◌*◌, ◌≤◌, ◌<◌, length, get_or, drop};
 ghost use Rattle.format.specs.Checksum.{running, residues, sums, is_lsa, is_good, octet_of, check, making, made_lsa, first_octet, second_octet};
 ghost use Rattle.checksum.specs.Answers.{sums_of, check_of, making_of};

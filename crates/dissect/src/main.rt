@@ -1,5 +1,7 @@
 // The program: reads version, walk and data from standard input, and writes the text of the strip, the first line and a
 // line an entry.
+#![tactic(auto)]
+
 ghost use Rattle.std.specs.Prelude.{◌≡◌, ◌+◌, ◌≤◌, length};
 ghost use Rattle.format.specs.Bytes.{part};
 ghost use Rattle.format.specs.Print.{printed};

@@ -1,4 +1,6 @@
 // What the program makes of its input: version, walk, data.
+#![tactic(auto)]
+
 ghost use Rattle.std.specs.Prelude.{◌≡◌, ◌≤◌, length};
 ghost use Rattle.format.specs.Walks.{answer_of, strip_of};
 ghost use Rattle.format.specs.Print.{count_of, program_of};

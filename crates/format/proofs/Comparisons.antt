@@ -5,7 +5,7 @@ use native.Mathlib.Omega.{arith}
 use mathlib.Core.Path.{◌≡◌, refl, sym, ap, ◌∙◌}
 use mathlib.Core.Logic.{⊎_elim}
 use mathlib.Core.List.{List, [], ◌∷◌}
-use lib.ListN.{length, get_or}
+use lib.ListN.{get_or}
 use Rattle.format.specs.Bytes.{be32_at}
 use Rattle.format.specs.Strip.{Step, step_at}
 use Rattle.format.specs.Strip.Step.{entry, end, refused as not_read}

@@ -1,5 +1,7 @@
 // The LSA header of both versions: its type and numbers, its reading from bytes, its entries in a strip, and which of two
 // instances is newer.
+#![tactic(auto)]
+
 ghost use Rattle.std.specs.Prelude.{◌≡◌, ◌+◌, ◌≤◌, ◌<◌, length};
 ghost use Rattle.format.specs.Header.{header_size, max_age, instance_entries, header2, header3, header_with, read_header, newness, newness_at, signed_rank, aged, younger};
 ghost use Rattle.format.specs.Strip.{encode};

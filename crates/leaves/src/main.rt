@@ -1,5 +1,7 @@
 // Runs the leaves on vectors and prints what they answer: octets of every prefix length, prefix comparison, newness,
 // the readers, and every kind of entry written and read back, with each refusal of the step.
+#![tactic(auto)]
+
 mod newness;
 mod prefixes;
 mod readers;

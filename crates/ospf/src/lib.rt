@@ -1,6 +1,8 @@
 // The library for the host, in C's calling convention: numbers as themselves, a slice as a pointer and a length. The answer is
 // one number: the result in the low 32 bits (of a walk the strip's length), the refusal's number in the next 8, and in the rest
 // the length of a block after a packet, of all others zero.
+#![tactic(auto)]
+
 ghost use Rattle.std.specs.Prelude.{◌≡◌, ◌<◌, length};
 ghost use Rattle.format.specs.Walks.{headers_of, update_of, lsa_of, answer_of, strip_of};
 ghost use Rattle.format.specs.Header.{newness_at};

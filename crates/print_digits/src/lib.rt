@@ -1,5 +1,7 @@
 // Words, decimal numbers, hexadecimal numbers and addresses, as text. Each function writes from a place on and answers the
 // next place.
+#![tactic(auto)]
+
 ghost use Rattle.std.specs.Prelude.{◌≡◌, ◌+◌, ◌≤◌, ◌<◌, length};
 ghost use Rattle.format.specs.Wrote.{Wrote};
 ghost use Rattle.format.specs.Print.{digits, spaced, hex_digit, hex, place, dot, dotted};

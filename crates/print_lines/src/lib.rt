@@ -1,4 +1,6 @@
 // The lines that the program prints, each from the front of a lent buffer.
+#![tactic(auto)]
+
 ghost use Rattle.std.specs.Prelude.{◌≡◌, ◌+◌, ◌≤◌, ◌<◌, ◌∷◌, ◌++◌, length, take};
 ghost use Rattle.format.specs.Wrote.{Wrote};
 ghost use Rattle.format.specs.Print.{line, line_room, first_line, field, spaced, dotted, hex, newline, ip4_word, ip6_word};

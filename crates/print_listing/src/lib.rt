@@ -1,4 +1,6 @@
 // The lines of a strip's entries, as many at a time as a lent buffer has the room for.
+#![tactic(auto)]
+
 ghost use Rattle.std.specs.Prelude.{◌≡◌, ◌≤◌, length, take};
 ghost use Rattle.format.specs.Wrote.{Wrote};
 ghost use Rattle.format.specs.Pieces.{lines_at, shown_part};

@@ -1,5 +1,7 @@
 // Replays files of stored calls (samples/README.md), which its arguments name: for each file how many calls it has, by walk
 // or block and by the number of the stored answer, and how many of them do not agree with crates `walk` and `trailer`.
+#![tactic(auto)]
+
 mod buffers;
 
 use buffers::{FILE, ROOM, file_buffer, strip_buffer};

@@ -1,5 +1,7 @@
 // One stored call, replayed: the walk, or the reading of a block, is called on a buffer that was filled, and its answer and every byte of the buffer
 // are compared with what is stored.
+#![tactic(auto)]
+
 ghost use Rattle.std.specs.Prelude.{◌≡◌, ◌+◌, ◌≤◌, length};
 ghost use Rattle.format.specs.Walks.{answer_of, strip_of};
 ghost use Rattle.walk_answer.specs.Answers.{answered};

@@ -1,5 +1,7 @@
 // A stored call (samples/README.md has the format): whether one stands whole at a place of a file, how long it is, and of
 // which walk or block and number it is.
+#![tactic(auto)]
+
 ghost use Rattle.std.specs.Prelude.{◌≡◌, ◌+◌, ◌≤◌, length};
 ghost use Rattle.replay_call.specs.Stored.{call_rule, call_size, is_call, is_of, kept_at, size_at};
 ghost use Rattle.util.specs.Answers.{length_of};

@@ -1,5 +1,7 @@
 // What is stored of an answer: whether an answer and the buffer after the call are the ones that are stored at a place of a
 // file.
+#![tactic(auto)]
+
 ghost use Rattle.std.specs.Prelude.{◌≡◌, ◌+◌, ◌≤◌, length};
 ghost use Rattle.format.specs.Bytes.{same_bytes};
 ghost use Rattle.walk_answer.specs.Answers.{answer_meaning};

@@ -1,4 +1,6 @@
 // All calls of a file: how many there are, of each walk or block and number, and which do not agree with the definitions.
+#![tactic(auto)]
+
 ghost use Rattle.std.specs.Prelude.{◌≡◌, length};
 ghost use Rattle.format.specs.Cut.{after};
 ghost use Rattle.replay_call.specs.Stored.{is_of};

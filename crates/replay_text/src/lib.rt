@@ -1,4 +1,6 @@
 // Words and numbers to standard output.
+#![tactic(auto)]
+
 pub fn word(w: &[u8]) {
     io::write_all(1, w);
 }

@@ -1,6 +1,8 @@
 // The numbers of the strip's format, as docs/STRIP.md lists them: the kinds of entries with their lengths, a module for
 // each version's field ids and one for those of the blocks after a packet, and here the ids of LSAs that mean the same in both
 // versions. In the definitions they stand in crate `format`.
+#![tactic(auto)]
+
 pub mod block;
 pub mod kind;
 pub mod v2;

@@ -1,5 +1,7 @@
 // Entries into a strip. A field's range is the n bytes from p on of a body whose first byte is at the place o of the packet.
 // A function whose name ends in `_at` takes the field's value from there too; so a field's range and its value cannot part.
+#![tactic(auto)]
+
 ghost use Rattle.std.specs.Prelude.{◌+◌, ◌≤◌, ◌<◌, length};
 ghost use Rattle.format.specs.Strip.{Entry, code, u8_at, bit_at, low_bits_at, u16_at, u24_at, metric24_at, wide16_at, u32_at, u64_at, ip4_at, bytes_at};
 ghost use Rattle.format.specs.Prefix.{ip6_at};

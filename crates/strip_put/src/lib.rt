@@ -1,4 +1,6 @@
 // Numbers into a strip. Each function writes from a place on and answers the next place; its contract is one `Wrote`.
+#![tactic(auto)]
+
 ghost use Rattle.std.specs.Prelude.{◌+◌, ◌≤◌, ◌<◌, [], ◌∷◌, length};
 ghost use Rattle.format.specs.Bytes.{be16, be32, be64};
 ghost use Rattle.format.specs.Strip.{head};

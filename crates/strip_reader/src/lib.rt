@@ -1,4 +1,6 @@
 // The strip reader, and the part of a packet that an entry of a strip names.
+#![tactic(auto)]
+
 ghost use Rattle.std.specs.Prelude.{◌≡◌};
 ghost use Rattle.format.specs.Strip.{step_at};
 ghost use Rattle.strip_step.specs.Answers.{step_of};

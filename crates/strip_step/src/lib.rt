@@ -1,5 +1,7 @@
 // The step of the strip reader, on a strip and a place: the entry that stands there and the next place, the end, or a
 // refusal's number.
+#![tactic(auto)]
+
 ghost use Rattle.std.specs.Prelude.{◌≡◌, ◌+◌, ◌≤◌, length, get_or};
 ghost use Rattle.format.specs.Bytes.{be32_at};
 ghost use Rattle.format.specs.Strip.{body_at, step_at};

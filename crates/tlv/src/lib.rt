@@ -1,4 +1,6 @@
 // tlv.rs: address prefixes of version 3 (RFC 5340 A.4.1), and their comparison.
+#![tactic(auto)]
+
 ghost use Rattle.std.specs.Prelude.{◌≡◌};
 ghost use Rattle.format.specs.Bytes.{same_bytes};
 ghost use Rattle.format.specs.Prefix.{octets, address, comparison};

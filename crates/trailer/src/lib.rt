@@ -1,5 +1,7 @@
 // trailer.rs: the blocks that stand after an OSPF packet, into a strip. The LLS data block (RFC 5613 2.2), and the
 // authentication trailer of OSPFv3 (RFC 7166 4.1).
+#![tactic(auto)]
+
 ghost use Rattle.std.specs.Prelude.{◌≡◌, ◌+◌, ◌≤◌, ◌<◌, length};
 ghost use Rattle.format.specs.Strip.{encode};
 ghost use Rattle.format.specs.Layout.{entries_at};

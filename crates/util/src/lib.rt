@@ -1,4 +1,6 @@
 // util.rs: the big-endian readers, and the metric of 24 bits. Each requires that its bytes lie in the body.
+#![tactic(auto)]
+
 ghost use Rattle.std.specs.Prelude.{◌≡◌, ◌+◌, ◌≤◌, length};
 ghost use Rattle.format.specs.Bytes.{be16_at, be24_at, be32_at, be64_at};
 ghost use Rattle.format.specs.Metric.{metric_at};

@@ -1,6 +1,8 @@
 // LSAs of version 2 into a strip: RFC 2328 A.4. The bodies of Network-LSAs (A.4.3) and of opaque LSAs (RFC 5250) are here,
 // those of the other types in `v2_router` and `v2_routes`. A body is pushed up to the place that its layout covers; the
 // bytes after it, or the whole of a raw body, are one entry.
+#![tactic(auto)]
+
 ghost use Rattle.std.specs.Prelude.{◌≡◌, ◌+◌, ◌≤◌, ◌<◌, length};
 ghost use Rattle.format.specs.Header.{header_size};
 ghost use Rattle.format.specs.Strip.{encode};

@@ -1,5 +1,7 @@
 // The Router-LSA of version 2 into a strip, with its links and their TOS metrics: RFC 2328 A.4.2, and RFC 3101 for the Nt
 // bit.
+#![tactic(auto)]
+
 ghost use Rattle.std.specs.Prelude.{◌≡◌, ◌+◌, ◌*◌, ◌≤◌, ◌<◌, length, get_or};
 ghost use Rattle.std.proofs.Math.Option.{some};
 ghost use mathlib.Core.List.{flat_map};

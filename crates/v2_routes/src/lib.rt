@@ -1,5 +1,7 @@
 // The LSAs of version 2 that describe a route to a destination outside the area, into a strip, with their TOS metrics:
 // RFC 2328 A.4.4 for Summary-LSAs, A.4.5 for AS-external-LSAs, RFC 3101 for type 7.
+#![tactic(auto)]
+
 ghost use Rattle.std.specs.Prelude.{◌≡◌, ◌+◌, ◌*◌, ◌≤◌, ◌<◌, length};
 ghost use mathlib.Core.List.{flat_map};
 ghost use Rattle.format.specs.Strip.{encode};

@@ -1,4 +1,6 @@
 // The part of v3_lsa.rs on the AS-External-LSA and the NSSA-LSA (RFC 5340 A.4.7, A.4.8).
+#![tactic(auto)]
+
 ghost use Rattle.std.specs.Prelude.{◌≡◌, ◌+◌, ◌≤◌, ◌<◌, length};
 ghost use Rattle.format.specs.Strip.{encode};
 ghost use Rattle.format.specs.V3.{has_forwarding, has_tag, has_reference, tag_place, reference_place, external_end, external_flags, external_prefix, forwarding_address, external_route_tag, referenced_link_state_id, external_optional, external_lsa3};

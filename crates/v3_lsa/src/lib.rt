@@ -1,5 +1,7 @@
 // v3_lsa.rs: the entries of a version 3 LSA, by its function code (RFC 5340 A.4, RFC 7770 2.2, RFC 8362 2 and 4,
 // RFC 9513 7). The bodies with prefixes are in the crates `v3_prefix_lsa` and `v3_external`.
+#![tactic(auto)]
+
 ghost use Rattle.std.specs.Prelude.{◌≡◌, ◌+◌, ◌*◌, ◌≤◌, ◌<◌, length};
 ghost use mathlib.Core.List.{flat_map};
 ghost use Rattle.format.specs.Body.{listing, whole};

@@ -1,5 +1,7 @@
 // The prefixes of version 3 (RFC 5340 A.4.1): whether one fits in a body, and a list of them. The LSAs that have a list are
 // in crate `v3_prefix_lsa`.
+#![tactic(auto)]
+
 ghost use Rattle.std.specs.Prelude.{◌≡◌, ◌+◌, ◌≤◌, ◌<◌, cond, length};
 ghost use mathlib.Core.List.{flat_map};
 ghost use Rattle.format.specs.Body.{listing};

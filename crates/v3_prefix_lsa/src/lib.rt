@@ -1,6 +1,8 @@
 // The LSAs of version 3 with prefixes: the Inter-Area-Prefix-LSA, which has one, and the Link-LSA and Intra-Area-Prefix-LSA,
 // which have a list (RFC 5340 A.4.5, A.4.9, A.4.10). The fields that these share with other LSAs are here too: Options
 // (A.2) and the references.
+#![tactic(auto)]
+
 ghost use Rattle.std.specs.Prelude.{◌+◌, ◌≤◌, ◌<◌, length};
 ghost use Rattle.format.specs.Strip.{encode, code};
 ghost use Rattle.format.specs.V3.{options, references, inter_area_prefix_lsa, link_lsa, intra_area_prefix_lsa};

@@ -1,5 +1,7 @@
 // The three walks, passed on, and the one that a number names. Each refuses by number what does not fit, measures the
 // strip, compares it with the room, and only then writes.
+#![tactic(auto)]
+
 ghost use Rattle.std.specs.Prelude.{◌≡◌, length};
 ghost use Rattle.format.specs.Walks.{walk_of, named_of, answer_of, strip_of};
 ghost use Rattle.walk_answer.specs.Answers.{answered, walk_meaning};

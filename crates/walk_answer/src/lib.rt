@@ -1,4 +1,6 @@
 // The walks by their numbers, a walk's answer, and what every walk has: its refusals, and the id of unparsed bytes.
+#![tactic(auto)]
+
 ghost use Rattle.std.specs.Prelude.{◌≡◌, ◌<◌, length};
 ghost use Rattle.format.specs.Walks.{walk_named, is_known, refusal, answer, unparsed_id};
 ghost use Rattle.walk_answer.specs.Answers.{answered, named_walk_of};

@@ -1,5 +1,7 @@
 // common.rs, `push_lsa_headers`: the walk over a list of LSA headers, as Database Description and Link State Acknowledgment
 // packets have it.
+#![tactic(auto)]
+
 ghost use Rattle.std.specs.Prelude.{◌≡◌, ℕ, ◌+◌, ◌*◌, ◌/◌, ◌≤◌, ◌<◌, length};
 ghost use mathlib.Core.List.{flat_map};
 ghost use Rattle.format.specs.Strip.{encode};

@@ -1,4 +1,6 @@
 // common.rs, `push_lsu_lsas`: the walk over the LSAs of a Link State Update (RFC 2328 A.3.5).
+#![tactic(auto)]
+
 ghost use Rattle.std.specs.Prelude.{◌≡◌, ℕ, ◌+◌, ◌*◌, ◌≤◌, ◌<◌, length};
 ghost use mathlib.Core.List.{flat_map};
 ghost use Rattle.format.specs.Strip.{encode};

@@ -1,8 +1,0 @@
-use borrow.Author.Rules.{rules}
-use Rattle.util.proofs.read_be_u64.Statement.{statement}
-use Rattle.util.proofs.read_be_u64.Tie as tie
-
-pub read-be-u64-spec : {M : Type 1} → statement M
-read-be-u64-spec = tie.close (tie.spec
-    (λ c. search rules) (λ c. search rules) (λ c. search rules) (λ c. search rules) (λ c. search rules)
-    (λ c. search rules) (λ c. search rules) (λ c. search rules))
