@@ -1,0 +1,29 @@
+use lib.ListN.{length}
+use borrow.Author.Tests.{lt-ltb, le-ltb}
+use native.Mathlib.Omega.{arith}
+use Rattle.body.proofs.Laws.{pushed_raw}
+use Rattle.format.specs.Strip.{encode, code}
+use Rattle.format.specs.V2.{router_lsa2}
+use Rattle.v2_router.proofs.push_router_lsa.Goals as goal
+
+pub returns-then-body-lt4 : goal.returns-then-body-lt4
+unfolding router_lsa2
+returns-then-body-lt4 c = rw (lt-ltb (length c.args.body.now) 4 (omega arith)) (pushed_raw _ _)
+
+pub push_router_flags-a-requires : goal.push_router_flags-a-requires
+unfolding router_lsa2 encode code
+push_router_flags-a-requires c =
+    let h = rw (le-ltb (length c.args.body.now) 4 (omega arith)) at c.requires.o_in_bounds in
+    omega arith
+
+pub push_u16_at-b-requires : goal.push_u16_at-b-requires
+unfolding router_lsa2 encode code
+push_u16_at-b-requires c =
+    let h = rw (le-ltb (length c.args.body.now) 4 (omega arith)) at c.requires.o_in_bounds in
+    omega arith
+
+pub push_links_array-links-requires : goal.push_links_array-links-requires
+unfolding router_lsa2 encode code
+push_links_array-links-requires c =
+    let h = rw (le-ltb (length c.args.body.now) 4 (omega arith)) at c.requires.o_in_bounds in
+    omega arith
