@@ -5,7 +5,7 @@ use mathlib.Core.Path.{◌≡◌, refl}
 use mathlib.Core.Option.{some}
 use borrow.Author.Rules.{rules}
 use native.Mathlib.Omega.{arith}
-use Rattle.format.proofs.Loop.{Measuring, spread, measure_begin, measure_turn, measure_finish}
+use Rattle.format.proofs.Loop.{Measuring, spread, measure_begin, measure_turn, measure_room, measure_finish}
 use Rattle.format.proofs.Unique.{cut_none}
 use Rattle.format.specs.Strip.{encode}
 use Rattle.format.specs.Cut.{cut, after, link_rule}
@@ -19,24 +19,35 @@ use Rattle.v2_router.proofs.measure.measure_links.Goals.{In-Bytes}
 pub loop-left-init : goal.loop-left-init
 loop-left-init c = (λ o. measure_begin link_rule _ _ _ 4, search rules)
 
-fits : (c : In-Bytes →
-    link_rule c.args.body.now c.loop-left.pos ≡ some c.in-Bytes.n-1
+fits : (c : In-Bytes) →
+    link_rule c.args.body.now c.loop-left.pos ≡ some c.in-Bytes.n
 fits c =
     some_of _ _ c.link_fits.result c.link_fits.ensures c.in-Bytes.is
 
 pub measure_link-total-requires : goal.measure_link-total-requires
 measure_link-total-requires c =
-    let h = link_inside_lem _ _ _ (fits (goal.at.measure_link-total-requires c).In-Bytes in
+    let h = link_inside_lem _ _ _ (fits (goal.at.measure_link-total-requires c).In-Bytes) in
     omega arith
 
 pub overflow_add-total : goal.overflow_add-total
-overflow_add-total c = search rules
+overflow_add-total c =
+    let b = c.args.body.now in
+    let l = c.loop-left in
+    let n = c.in-Bytes.n in
+    let k = c.args.count in
+    let m = measure_room link_rule (link b 0) b k 4 n (l.invariant.0 0) (omega arith) (fits (goal.at.overflow_add-total c).In-Bytes) in
+    omega (arith, c.measure_link-total.ensures 0 n, links_bound b 0 k 4)
+
+pub overflow_add-pos : goal.overflow_add-pos
+overflow_add-pos c =
+    let h = link_inside_lem _ _ _ (fits (goal.at.overflow_add-pos c).In-Bytes) in
+    omega arith
 
 pub loop-left-preserved : goal.loop-left-preserved
 loop-left-preserved c =
     let l = c.loop-left in
-    let h = link_inside_lem _ _ _ (fits (goal.at.loop-left-preserved c).In-Bytes in
-    (λ o. rw (c.measure_link-total.ensures o c.in-Bytes.n-1) (measure_turn link_rule _ _ _ 4 _ (l.invariant.0 o) (omega arith) (fits (goal.at.loop-left-preserved c).In-Bytes), h.0)
+    let h = link_inside_lem _ _ _ (fits (goal.at.loop-left-preserved c).In-Bytes) in
+    (λ o. rw (c.measure_link-total.ensures o c.in-Bytes.n) (measure_turn link_rule _ _ _ 4 _ (l.invariant.0 o) (omega arith) (fits (goal.at.loop-left-preserved c).In-Bytes)), h.0)
 
 -- the sum of all is that of the definition, which is bounded
 summed : (b : List ℕ) (k total pos left : ℕ) → ((o : ℕ) → Measuring link_rule (link b o) b k 4 total pos left) → cut link_rule b left pos ≡ []
