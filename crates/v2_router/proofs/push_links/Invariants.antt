@@ -1,4 +1,3 @@
-use Prim.Native.Nat.{◌-◌}
 use Rattle.v2_router.proofs.Rest.{Standing}
 use Rattle.v2_router.proofs.push_links.Given as goal
 
