@@ -7,20 +7,20 @@ ghost use Rattle.std.specs.Io.KnownBytes.{Appends};
 use std::io;
 use std::io::Write;
 
-pub fn word<W: Write>(out: &mut W, w: &[u8]) -> io::Result<()>
-    ensures { OnOk result (Appends (W.contents out.old) (W.contents out.new) w.now) }
+pub fn word<W: Write>(to: &mut W, w: &[u8]) -> io::Result<()>
+    ensures { OnOk result (Appends (W.contents to.old) (W.contents to.new) w.now) }
 {
-    out.write_all(w)
+    to.write_all(w)
 }
 
-pub fn number<W: Write>(out: &mut W, n: u64) -> io::Result<()>
-    ensures { OnOk result (Appends (W.contents out.old) (W.contents out.new) (32 ∷ decimal n)) }
+pub fn number<W: Write>(to: &mut W, n: u64) -> io::Result<()>
+    ensures { OnOk result (Appends (W.contents to.old) (W.contents to.new) (32 ∷ decimal n)) }
 {
-    write!(out, " {n}")
+    write!(to, " {n}")
 }
 
-pub fn line<W: Write>(out: &mut W) -> io::Result<()>
-    ensures { OnOk result (Appends (W.contents out.old) (W.contents out.new) (10 ∷ [])) }
+pub fn line<W: Write>(to: &mut W) -> io::Result<()>
+    ensures { OnOk result (Appends (W.contents to.old) (W.contents to.new) (10 ∷ [])) }
 {
-    out.write_all(b"\n")
+    to.write_all(b"\n")
 }
