@@ -1,7 +1,6 @@
-use Rattle.std.proofs.Common.{◌≡◌, ℕ, List, [], ◌++◌, length, take, drop, arith, refl, sym, ap, ◌∙◌, subst, append_assoc, append-nil}
+use Rattle.std.proofs.Common.{[], ◌++◌, take, arith, refl, sym, subst}
 use Rattle.std.proofs.KnownBytes.{Appends-nil, Appends-trans}
 use Rattle.std.specs.Io.KnownBytes.{Appends}
-use Rattle.format.specs.Print.{printed}
 use Rattle.format.proofs.Wrote.{kept}
 use Rattle.dissect.proofs.Turn.{piece, left, done, cut, all_cut}
 use Rattle.dissect.proofs.write_entries.Goals as goal
@@ -46,5 +45,5 @@ returns g c =
     let k = c.put_lines-lines.ensures in
     let i = c.loop-out.invariant in
     let (before, split, appended) = i.sent in
-    let all = done _ _ _ _ i.left (omega arith) k.wrote k.next_value k.length_in_bounds.0 c.if-k-eq0.true in
+    let all = done _ _ _ _ i.left (omega arith) k.wrote k.next_value k.length_in_bounds.0 (omega arith) in
     record { count = all; bytes = subst (Appends _ _) (sym (all_cut _ _ _ _ split all)) appended }
