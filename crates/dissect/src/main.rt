@@ -2,8 +2,7 @@
 // line an entry.
 #![tactic(auto)]
 
-ghost use Rattle.std.specs.Prelude.{◌≡◌, ◌+◌, ◌≤◌, length, drop, IfOk, OnOk};
-ghost use Rattle.std.specs.Io.{ReadsAtMost};
+ghost use Rattle.std.specs.Prelude.{◌≡◌, ◌+◌, ◌≤◌, length, drop, IfOk, OnOk, IfSome};
 ghost use Rattle.std.specs.Io.KnownBytes.{Appends};
 ghost use Rattle.format.specs.Bytes.{part};
 ghost use Rattle.format.specs.Print.{printed};
@@ -12,30 +11,23 @@ ghost use Rattle.format.specs.Pieces.{Left};
 use dissect_input::{MAX_INPUT, run};
 use print_lines::{LINE, answer_line};
 use print_listing::{put_lines, shown_part};
+use read_input::read_full;
 use std::io;
 use std::io::{Read, Write};
 
 fn main(rt: HostRuntime) -> io::Result<()> {
-    // One byte more than the most input, so that more is seen.
-    let mut input = [0u8; MAX_INPUT + 1];
-    let n = read_full(&mut rt.stdin(), &mut input)?;
-    write_text(&mut io::writer(&rt), &input[..n])?;
-    Ok(())
+    dissect(&mut rt.stdin(), &mut io::writer(&rt))
 }
 
-// Reads until the buffer is full or the input ends, and answers how many bytes it put at the buffer's start.
-fn read_full<R: Read>(from: &mut R, buffer: &mut [u8]) -> io::Result<usize>
-    ensures { ReadsAtMost result buffer.new }
+// The program over any reader and writer: what is written is the text of all that is there to read.
+fn dissect<R: Read, W: Write>(from: &mut R, to: &mut W) -> io::Result<()>
+    ensures { OnOk result (IfSome (R.remaining from.old) (λ input. Appends (W.contents to.old) (W.contents to.new) (printed input))) }
 {
-    let mut done = 0;
-    while done < buffer.len() {
-        let n = from.read(&mut buffer[done..])?;
-        if n == 0 {
-            break;
-        }
-        done += n;
-    }
-    Ok(done)
+    // One byte more than the most input, so that more is seen.
+    let mut input = [0u8; MAX_INPUT + 1];
+    let n = read_full(from, &mut input)?;
+    write_text(to, &input[..n])?;
+    Ok(())
 }
 
 // 65,536 zeros. Only their number is told, which lending the array as a slice needs.

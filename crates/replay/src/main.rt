@@ -4,9 +4,8 @@
 
 mod buffers;
 
-ghost use Rattle.std.specs.Io.{ReadsAtMost};
-
 use buffers::{FILE, ROOM, file_buffer, strip_buffer};
+use read_input::read_full;
 use replay_tally::{count_calls, count_different, first_different, whole_calls};
 use replay_text::{line, number, word};
 use std::env::{Env, FillError};
@@ -49,21 +48,6 @@ fn replay_file(from: &mut impl Read, to: &mut impl Write) -> io::Result<()> {
     }
     print_calls(to, &file[..n])?;
     print_differences(to, &file[..n])
-}
-
-// Reads until the buffer is full or the input ends, and answers how many bytes it put at the buffer's start.
-fn read_full<R: Read>(from: &mut R, buffer: &mut [u8]) -> io::Result<usize>
-    ensures { ReadsAtMost result buffer.new }
-{
-    let mut done = 0;
-    while done < buffer.len() {
-        let n = from.read(&mut buffer[done..])?;
-        if n == 0 {
-            break;
-        }
-        done += n;
-    }
-    Ok(done)
 }
 
 // The number of calls, a line for each walk and block with the calls of number 0 to 5, and whether the file ends with a whole call.
