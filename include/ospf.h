@@ -1,6 +1,6 @@
 /*
  * The LSAs of OSPFv2 and OSPFv3 packets, and the blocks that may follow a packet, as a strip of fields: the exports of
- * libospf.a, which `rt staticlib ospf` writes to target/staticlib; and, inline, a reader of strips. docs/STRIP.md has
+ * libospf.a, which `tools/build ospf` writes to target/staticlib; and, inline, a reader of strips. docs/STRIP.md has
  * the format of strips and all ids.
  *
  * What a caller must know of the exports:

@@ -1,4 +1,4 @@
-//! Links the proved library, which `rt staticlib ospf` writes below the
+//! Links the proved library, which `tools/build ospf` writes below the
 //! repository's `target/`, or one that `OSPF_LIB_DIR` names.
 
 use std::env;
@@ -15,7 +15,7 @@ fn main() {
     let library = folder.join("libospf.a");
     assert!(
         library.exists(),
-        "{} is missing: run `rt staticlib ospf` at the repository's top first, or set {OVERRIDE} to the folder that has it",
+        "{} is missing: run `tools/build ospf` at the repository's top first, or set {OVERRIDE} to the folder that has it",
         library.display()
     );
     println!("cargo:rerun-if-changed={}", library.display());
@@ -31,7 +31,7 @@ fn of_repository(top: &Path) -> PathBuf {
     let [arch, os] = target.map(|part| part.expect("cargo sets it"));
     assert!(
         (arch.as_str(), os.as_str()) == ("x86_64", "linux"),
-        "`rt staticlib ospf` writes libospf.a for x86_64 Linux, and this build is for {arch} {os}; set {OVERRIDE} to the folder of a libospf.a for it"
+        "`tools/build ospf` writes libospf.a for x86_64 Linux, and this build is for {arch} {os}; set {OVERRIDE} to the folder of a libospf.a for it"
     );
     top.join("target/staticlib")
 }

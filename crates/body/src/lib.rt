@@ -16,35 +16,35 @@ use strip_push::{
 };
 
 // What became of a body that is pushed: the place after its entries and the number of bytes consumed, or that it is raw.
-#[derive(Drop)]
+#[derive(Clone, Copy)]
 pub enum Body {
     Decoded { at: usize, consumed: usize },
     Raw,
 }
 
 // The same of a body that is measured: the length of its entries in a strip.
-#[derive(Drop)]
+#[derive(Clone, Copy)]
 pub enum Measured {
     Decoded { length: usize, consumed: usize },
     Raw,
 }
 
 // A list that is pushed: the place after its entries, and where in the body it ends.
-#[derive(Drop)]
+#[derive(Clone, Copy)]
 pub struct Listed {
     pub at: usize,
     pub end: usize,
 }
 
 // The same of a list that is measured: the length of its entries in a strip.
-#[derive(Drop)]
+#[derive(Clone, Copy)]
 pub struct MeasuredList {
     pub length: usize,
     pub end: usize,
 }
 
 // A whole LSA, measured: the length of its entries in a strip, and how many of its bytes stay unparsed.
-#[derive(Drop)]
+#[derive(Clone, Copy)]
 pub struct Lsa {
     pub length: usize,
     pub tail: usize,

@@ -8,7 +8,7 @@ ghost use Rattle.checksum.specs.Answers.{sums_of, check_of, making_of};
 use header::LsaHeader;
 
 // Whether the checksum is right, or the number of the refusal.
-#[derive(Drop)]
+#[derive(Clone, Copy)]
 pub enum Check {
     Good,
     Bad,
@@ -16,7 +16,7 @@ pub enum Check {
 }
 
 // The checksum that was made, or the number of the refusal.
-#[derive(Drop)]
+#[derive(Clone, Copy)]
 pub enum Making {
     Made(u16),
     Refused(u8),
@@ -29,7 +29,7 @@ const NO_LSA: u8 = 13;
 const MAX_LENGTH: usize = 65535;
 
 // C0 and C1 of annex B of RFC 905, modulo 255.
-#[derive(Drop)]
+#[derive(Clone, Copy)]
 struct Sums {
     c0: u64,
     c1: u64,

@@ -1,5 +1,5 @@
 -- When an entry stands, both ways, for each of the three lists in its own numbers; and that each list has exactly one cut
--- in the words of demand 3, which is the one that `cut` gives.
+-- in the words of specs/CutInto.antt, which is the one that `cut` gives.
 use Prim.Native.Nat.{ℕ, ◌+◌, ◌*◌, ◌-◌, ◌/◌, ◌%◌, ◌≤◌, ◌<◌}
 use native.Mathlib.Omega.{arith}
 use mathlib.Core.Path.{◌≡◌, refl, sym, ap, subst, ◌∙◌}

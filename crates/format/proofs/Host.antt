@@ -1,4 +1,4 @@
--- From the host's number to the demands: what the exports' contracts say of the answer and of the lent buffer, before and
+-- From the host's number to what a caller may rely on: what the exports' contracts say of the answer and of the lent buffer, before and
 -- after the call, for every call.
 use Prim.Native.Nat.{ℕ, ◌/◌, ◌≤◌, ◌<◌}
 use native.Mathlib.Omega.{arith}

@@ -1,4 +1,4 @@
--- Demand 3 in its own words, without a rule: when an entry stands at a place of a body, in the numbers of each list, and
+-- The cut in plain words, without a rule: when an entry stands at a place of a body, in the numbers of each list, and
 -- when spans are the cut of a list.
 use Rattle.std.specs.Prelude.{ℕ, ◌+◌, ◌*◌, ◌-◌, ◌%◌, ◌≤◌, ◌<◌, ◌≡◌, length, get_or}
 use mathlib.Core.List.{List, [], ◌∷◌, Memᴰ}

@@ -17,7 +17,7 @@ pub mod v2;
 pub mod v3;
 
 // What both versions' headers say.
-#[derive(Drop)]
+#[derive(Clone, Copy)]
 pub struct LsaHeader {
     pub age: u16,
     pub ls_type: u16,
@@ -29,14 +29,14 @@ pub struct LsaHeader {
 }
 
 // A header, or the number of the refusal.
-#[derive(Drop)]
+#[derive(Clone, Copy)]
 pub enum Reading {
     Header(LsaHeader),
     Refused(u8),
 }
 
 // Which of two instances is newer, or the number of the refusal.
-#[derive(Drop)]
+#[derive(Clone, Copy)]
 pub enum Newness {
     First,
     Second,

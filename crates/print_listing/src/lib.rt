@@ -12,7 +12,7 @@ use strip_step::Step;
 use walk_answer::Answer;
 
 // How many bytes the lines have, and the place of the strip where the next ones begin.
-#[derive(Drop)]
+#[derive(Clone, Copy)]
 pub struct Lines {
     pub length: usize,
     pub next: usize,

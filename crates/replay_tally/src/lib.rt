@@ -11,7 +11,7 @@ use replay_call::{call_fits, is_of};
 use util::Length;
 
 // How many calls a file has, and where the last of them ends: at the file's end, unless the file is damaged.
-#[derive(Drop)]
+#[derive(Clone, Copy)]
 pub struct Whole {
     pub calls: usize,
     pub end: usize,

@@ -11,7 +11,7 @@ use strip_step::{Step, step_at};
 pub mod part;
 
 // A strip that was lent, and the place in it where the next step reads.
-#[derive(Drop)]
+#[derive(Clone, Copy)]
 pub struct Reader<'a> {
     pub strip: &'a [u8],
     pub place: usize,

@@ -14,7 +14,7 @@ use strip_ids::kind::{
 use util::{read_be_u16, read_be_u32, read_be_u64};
 
 // Where a field lies: its id, and its range in the packet.
-#[derive(Drop)]
+#[derive(Clone, Copy)]
 pub struct Field {
     pub id: u8,
     pub start: u32,
@@ -23,7 +23,7 @@ pub struct Field {
 
 // An entry: its field, and the value. An IPv4 address is the number of its bytes, an IPv6 address the numbers of its two
 // halves.
-#[derive(Drop)]
+#[derive(Clone, Copy)]
 pub enum Entry {
     Open(Field),
     Close,
@@ -37,7 +37,7 @@ pub enum Entry {
     U64(Field, u64),
 }
 
-#[derive(Drop)]
+#[derive(Clone, Copy)]
 pub enum Step {
     Entry(Entry, usize),
     End,

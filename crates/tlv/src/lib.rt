@@ -39,13 +39,13 @@ pub fn prefix_to_ipv6(bytes: &[u8]) -> [u8; 16]
     addr
 }
 
-#[derive(Drop)]
+#[derive(Clone, Copy)]
 pub struct Prefix {
     pub length: u8,
     pub address: [u8; 16],
 }
 
-#[derive(Drop)]
+#[derive(Clone, Copy)]
 pub enum Comparison {
     Same,
     Different,

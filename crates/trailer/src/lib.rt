@@ -18,7 +18,7 @@ use walk_answer::{MAX_DATA, MAX_OFFSET, NO_ROOM, TOO_FAR, TOO_MUCH};
 
 // What is at the front of the data: no block, or one, with the strip's length and the block's; or the number of a refusal, with
 // the length needed where there is no room.
-#[derive(Drop)]
+#[derive(Clone, Copy)]
 pub enum Block {
     Absent,
     Found { strip: usize, block: usize },

@@ -51,7 +51,7 @@ pub fn read_ipv4_addr(body: &[u8], p: usize) -> u32
 const LS_INFINITY: u32 = 0xFFFFFF;
 
 // A metric of 24 bits: the cost of a route, or its destination is unreachable.
-#[derive(Drop)]
+#[derive(Clone, Copy)]
 pub enum Metric {
     Cost(u32),
     Unreachable,
@@ -85,7 +85,7 @@ fn read_word(body: &[u8], p: usize) -> u32
 }
 
 // A number of bytes, if there is one: how long an entry or a block is that stands at a place, or the octets of a prefix.
-#[derive(Drop)]
+#[derive(Clone, Copy)]
 pub enum Length {
     Bytes(usize),
     Nothing,

@@ -5,7 +5,7 @@ use mathlib.Core.List.{List}
 use mathlib.Core.Path.{◌≡◌, refl, sym, ◌∙◌}
 use lib.ListN.{length}
 use Rattle.format.specs.Strip.{Entry, encode}
-use Rattle.format.specs.Walks.{Outcome, unless, refusal, answer, answer_of, strip_of}
+use Rattle.format.specs.Walks.{Outcome, unless, answer, answer_of, strip_of}
 use Rattle.format.specs.Walks.Outcome.{accepted}
 use Rattle.format.specs.Wrote.{Wrote}
 use Rattle.format.proofs.Refusals.{walk_refused, walk_full, walk_done}

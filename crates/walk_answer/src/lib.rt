@@ -8,7 +8,7 @@ ghost use Rattle.walk_answer.specs.Answers.{answered, named_walk_of};
 use strip_ids::{v2, v3};
 
 // The walks over a header list, a link-state update and a single LSA.
-#[derive(Drop)]
+#[derive(Clone, Copy)]
 pub enum Walk {
     LsaHeaders,
     LsuLsas,
@@ -16,7 +16,7 @@ pub enum Walk {
 }
 
 // The walk that a number names, if it names one.
-#[derive(Drop)]
+#[derive(Clone, Copy)]
 pub enum NamedWalk {
     Walk(Walk),
     Nothing,
@@ -35,7 +35,7 @@ pub fn walk_named(number: u8) -> NamedWalk
 
 // A walk's answer: 0 or the number of a refusal, the strip's length (the length needed where there is no room), how many
 // records it has, and how many bytes are left after them.
-#[derive(Drop)]
+#[derive(Clone, Copy)]
 pub struct Answer {
     pub number: u8,
     pub length: usize,

@@ -24,7 +24,7 @@ use walk_lsa::{measure_lsa, push_lsa_at};
 const FIRST: usize = 4;
 
 // The LSAs of an update, measured: the length of their objects' entries, their number, and where the last one ends.
-#[derive(Drop)]
+#[derive(Clone, Copy)]
 pub struct Lsas {
     pub length: usize,
     pub records: usize,

@@ -134,7 +134,7 @@ fn layouts(version: u8, file: &str) -> Vec<Vec<String>> {
         entries = format!("{entries} {}", until(&mut rest, "[]").join(" "));
         let left = if opaque { "0".into() } else { rest.remove(0) };
         let row = format!(
-            "lsaOf {version} counted {length} {but} [] 1000 ≡ accepted {entries} [] 1 {left}"
+            "lsa_of {version} counted {length} {but} [] 1000 ≡ accepted {entries} [] 1 {left}"
         );
         rows.push(expanded(&words(&row), &definitions));
     }
@@ -237,8 +237,8 @@ fn written(strip: &[u8]) -> String {
 /// Compares a walk's statement with the reference; the version and the LSA's bytes.
 fn compare(name: &str, mut statement: Vec<String>) -> (u8, Vec<u8>) {
     let walk = match statement.remove(0).as_str() {
-        "headersOf" => Walk::Headers,
-        "updateOf" => Walk::Update,
+        "headers_of" => Walk::Headers,
+        "update_of" => Walk::Update,
         _ => Walk::Lsa,
     };
     let version = number(&statement.remove(0)) as u8;
@@ -299,7 +299,7 @@ fn an_lsa_of_each_layout() {
 
 #[test]
 fn walks_at_an_offset() {
-    let walks = statements("Listings.antt", &["headersOf", "updateOf"]);
+    let walks = statements("Listings.antt", &["headers_of", "update_of"]);
     assert_eq!(walks.len(), 3);
     for (name, statement) in walks {
         compare(&name, statement);

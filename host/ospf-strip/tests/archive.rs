@@ -65,7 +65,7 @@ fn of_another_folder() {
 fn missing() {
     let (linked, says) = run("x86_64", "linux", Some(&folder("empty")));
     assert!(!linked);
-    assert!(says.contains("run `rt staticlib ospf`"), "{says}");
+    assert!(says.contains("run `tools/build ospf`"), "{says}");
 }
 
 #[test]

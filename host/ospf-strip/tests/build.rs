@@ -11,17 +11,26 @@ use std::time::{Duration, SystemTime};
 
 const FILE: &str = "target/bin/second";
 
-/// What `rt` does where it proves all: it writes the file only if that is not there, as where nothing is left to prove.
-const MAKES: &str = "mkdir -p target/bin; [ -e target/bin/second ] || : >target/bin/second\n";
+/// What `rt` does where it proves all: it writes the program only if that is not there, as where nothing is left to prove.
+const MAKES: &str =
+    "mkdir -p crates/second/out; [ -e crates/second/out/second ] || : >crates/second/out/second\n";
+
+/// What `rt` says of a crate that it proves; of one that is proved already it says nothing.
+fn proved(name: &str) -> String {
+    let count = "modules loaded=0 checked=4";
+    format!(
+        "echo 'rt: chose --jobs 2 for {name}'; echo 'crate {name}: {count}'; echo 'logic=proved functions=1'"
+    )
+}
 
 fn repository(name: &str, does: &str) -> Repository {
     let repository = Repository::new(name, "tools/build");
-    repository.write("does/check", does);
+    repository.write("does/run", does);
     repository
 }
 
 fn build(repository: &Repository) -> Command {
-    repository.command("tools/build", &[FILE, "check", "second"])
+    repository.command("tools/build", &["second"])
 }
 
 /// Builds, and says whether `rt` was run.
@@ -32,7 +41,7 @@ fn runs(repository: &Repository) -> bool {
     let (stdout, stderr) = texts(&output);
     assert_eq!(stdout, "");
     assert_eq!(stderr.is_empty(), calls.is_empty(), "{stderr}");
-    assert!(calls.is_empty() || calls == ["check second"], "{calls:?}");
+    assert!(calls.is_empty() || calls == ["run in second"], "{calls:?}");
     !calls.is_empty()
 }
 
@@ -88,6 +97,46 @@ fn deleted_source_is_built() {
     changed("build-less", |r| {
         fs::remove_dir_all(r.path("crates/other")).unwrap()
     });
+    changed("build-folder", |r| {
+        fs::remove_dir_all(r.path("crates/first/old")).unwrap()
+    });
+}
+
+/// What `rt` keeps of a crate is no source: it writes it, and `rt ci` moves it away and back.
+#[test]
+fn kept_work_is_no_source() {
+    let repository = repository("build-kept", MAKES);
+    assert!(runs(&repository));
+    tick();
+    for crate_dir in ["crates/first", "crates/second"] {
+        repository.write(&format!("{crate_dir}/out/incremental/part"), "");
+    }
+    assert!(!runs(&repository));
+    for crate_dir in ["crates/first", "crates/second"] {
+        fs::remove_dir_all(repository.path(&format!("{crate_dir}/out"))).unwrap();
+    }
+    assert!(!runs(&repository));
+}
+
+/// A static library is built by another command, and has a place of its own.
+#[test]
+fn static_library_is_built() {
+    let repository = repository("build-library", ":\n");
+    repository.write("crates.txt", "first:\nsecond staticlib: first\n");
+    let does = "mkdir -p crates/second/out; echo archive >crates/second/out/libsecond.a";
+    repository.write("does/lib", &format!("{does}; {}\n", proved("second")));
+    let output = build(&repository).output().unwrap();
+    assert!(output.status.success(), "{output:?}");
+    assert_eq!(repository.calls(), ["lib in second"]);
+    let (_, stderr) = texts(&output);
+    assert!(
+        stderr.contains("\nproved second, 0 of 2 crates left\n"),
+        "{stderr}"
+    );
+    let archive = repository.path("target/staticlib/libsecond.a");
+    assert_eq!(fs::read_to_string(archive).unwrap(), "archive\n");
+    assert!(build(&repository).output().unwrap().status.success());
+    assert!(repository.calls().is_empty());
 }
 
 /// As by a copy that keeps the times of files.
@@ -107,7 +156,7 @@ fn edit_during_the_run_is_built() {
     let edits = format!("{MAKES}sleep 0.05; echo >>crates/first/source; sleep 0.05\n");
     let repository = repository("build-during", &edits);
     assert!(runs(&repository));
-    repository.write("does/check", MAKES);
+    repository.write("does/run", MAKES);
     assert!(runs(&repository));
     assert!(!runs(&repository));
 }
@@ -116,10 +165,10 @@ fn edit_during_the_run_is_built() {
 /// than the sources.
 #[test]
 fn failure_is_shown() {
-    let proves = "echo 'fn first::f: proved'; echo 'logic=proved functions=1'; echo 'rt: first proved (4 s)'";
-    let not = "echo 'fn second::f: not proved'; echo 'logic=not-proved'";
+    let proves = format!("echo 'fn first::f: proved'; {}", proved("first"));
+    let not = "echo 'fn second::f: not proved'; echo 'crate second: modules loaded=0 checked=4'; echo 'logic=not-proved'";
     let fails = format!(
-        "{MAKES}{proves}; {not}; echo 'rt: second NOT PROVED'; echo 'rt: FAILED: second' >&2; exit 1\n"
+        "{MAKES}{proves}; {not}; echo 'rattle build: nothing was built'; echo 'rt: second failed' >&2; exit 1\n"
     );
     let repository = repository("build-fails", &fails);
     for _ in 0..2 {
@@ -134,15 +183,15 @@ fn failure_is_shown() {
                 "proved first, 1 of 2 crates left",
                 "fn second::f: not proved",
                 "logic=not-proved",
-                "rt: second NOT PROVED",
-                "rt: FAILED: second",
-                "target/bin/second is not built: rt check second failed",
+                "rattle build: nothing was built",
+                "rt: second failed",
+                "target/bin/second is not built: rt run failed in crates/second",
             ]
         );
         assert!(!stderr.contains("built target/bin/second in "), "{stderr}");
-        assert_eq!(repository.calls(), ["check second"]);
+        assert_eq!(repository.calls(), ["run in second"]);
     }
-    repository.write("does/check", MAKES);
+    repository.write("does/run", MAKES);
     assert!(runs(&repository));
     assert!(!runs(&repository));
 }
@@ -155,14 +204,18 @@ fn file_that_rt_does_not_make_is_a_failure() {
     assert!(!repository.path(FILE).exists());
     let (_, stderr) = texts(&output);
     assert!(
-        stderr.contains("is not built, though rt check second passed"),
+        stderr.contains("is not built, though rt run passed in crates/second"),
         "{stderr}"
     );
 }
 
 #[test]
 fn proofs_are_counted() {
-    let says = "echo 'fn first::f: proved'; echo 'rt: first proved (4 s)' >&2; echo 'rt: second proved (12 s)'\n";
+    let says = format!(
+        "echo 'fn first::f: proved'; {} >&2; {}\n",
+        proved("first"),
+        proved("second")
+    );
     let repository = repository("build-counts", &format!("{MAKES}{says}"));
     let (_, stderr) = texts(&build(&repository).output().unwrap());
     let lines: Vec<_> = stderr.lines().collect();
@@ -177,8 +230,7 @@ fn proofs_are_counted() {
     assert_eq!(second, "proved second, 0 of 2 crates left");
     assert!(end.starts_with("built target/bin/second in "), "{end}");
 
-    let unchanged = "echo 'rt: first proved (unchanged since it was last proved)'; echo 'rt: second proved (1 s)'\n";
-    repository.write("does/check", unchanged);
+    repository.write("does/run", &format!("{}\n", proved("second")));
     tick();
     repository.append("crates/second/source", "\n");
     let (_, stderr) = texts(&build(&repository).output().unwrap());
@@ -192,9 +244,10 @@ fn proofs_are_counted() {
 /// `rt` goes on only once the line of its first crate was read.
 #[test]
 fn proofs_are_shown_as_they_end() {
-    let waits = "echo 'rt: first proved (4 s)'; i=0
+    let waits = "i=0
         while [ ! -e seen ]; do i=$((i + 1)); [ $i -lt 200 ] || exit 1; sleep 0.05; done\n";
-    let repository = repository("build-shows", &format!("{MAKES}{waits}"));
+    let does = format!("{MAKES}{}; {waits}", proved("first"));
+    let repository = repository("build-shows", &does);
     let mut child = build(&repository).stderr(Stdio::piped()).spawn().unwrap();
     let mut stderr = BufReader::new(child.stderr.take().unwrap());
     let mut line = String::new();

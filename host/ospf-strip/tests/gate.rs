@@ -12,8 +12,10 @@ fn repository(name: &str) -> Repository {
     fs::create_dir(repository.path("host")).unwrap();
     symlink(folder().join("rt"), repository.path("host/test")).unwrap();
     repository.write("README.md", "# Title\n\n    kit-1 logic 0\n");
-    repository.write("does/fmt", ":\n");
-    repository.write("does/ci", "echo '3 passed, 0 failed'\n");
+    repository.write(
+        "does/ci",
+        "echo 'rt: ok; handles allowed: none; must-fail edits: 1 refused; all'; echo '3 passed, 0 failed'\n",
+    );
     repository.write("does/version", "echo 'kit-1 logic 0'\n");
     repository.write("does/host-test", "echo 'host: 2 tests passed'\n");
     repository
@@ -27,7 +29,7 @@ fn run(repository: &Repository) -> (bool, Vec<String>) {
     (output.status.success(), lines)
 }
 
-/// The crates are one step, and so are `rt fmt`, `rt ci` and `host/test`, beside what the last two count.
+/// The crates are one step, and so are `rt ci`, its edits and `host/test`, beside what `rt ci` and `host/test` count.
 #[test]
 fn steps_are_counted() {
     let repository = repository("gate-counts");
@@ -36,12 +38,13 @@ fn steps_are_counted() {
     assert_eq!(
         lines,
         [
+            "rt: ok; handles allowed: none; must-fail edits: 1 refused; all",
             "3 passed, 0 failed",
             "host: 2 tests passed",
             "9 passed, 0 failed"
         ]
     );
-    assert_eq!(repository.calls(), ["fmt --check", "ci", "", "version"]);
+    assert_eq!(repository.calls(), ["ci", "", "version"]);
 }
 
 #[test]
@@ -61,6 +64,74 @@ fn crates_that_are_not_listed_are_named() {
         ]
     );
     assert_eq!(lines.last().unwrap(), "8 passed, 1 failed");
+}
+
+/// Lists of a static library, and of a crate with more words, are lists of it.
+#[test]
+fn static_library_is_listed() {
+    let repository = repository("gate-library");
+    repository.append("crates.txt", "third staticlib: first\n");
+    repository.write("crates/third/source", "");
+    let (passed, lines) = run(&repository);
+    assert!(passed, "{lines:?}");
+}
+
+/// What `rt ci` prints and its status, what the step is called that fails, and the last line.
+#[test]
+fn proofs_that_do_not_pass_fail() {
+    let ok = "rt: ok; handles allowed: none; must-fail edits: 2 refused";
+    let ci = "FAILED: rt ci";
+    let edits = "FAILED: every must-fail edit can be tried";
+    let cases = [
+        (
+            "echo '3 passed, 0 failed'; false".into(),
+            ci,
+            "8 passed, 1 failed",
+        ),
+        (
+            "echo '1 passed, 2 failed'; false".into(),
+            ci,
+            "6 passed, 3 failed",
+        ),
+        (
+            "echo '3 passed, 0 failed'; echo 'no count'".into(),
+            ci,
+            "5 passed, 1 failed",
+        ),
+        (":".into(), ci, "5 passed, 1 failed"),
+        (
+            format!("echo '{ok}, 2 bad; all'; echo '3 passed, 0 failed'"),
+            edits,
+            "8 passed, 1 failed",
+        ),
+        (
+            format!(
+                "echo '{ok}, 1 of them only by a limit, 12 bad; all'; echo '3 passed, 0 failed'"
+            ),
+            edits,
+            "8 passed, 1 failed",
+        ),
+    ];
+    for (i, (does, step, last)) in cases.into_iter().enumerate() {
+        let repository = repository(&format!("gate-fails-{i}"));
+        repository.write("does/ci", &format!("{does}\n"));
+        let (passed, lines) = run(&repository);
+        assert!(!passed, "{does}");
+        assert!(lines.iter().any(|line| line == step), "{lines:?}");
+        assert_eq!(lines.last().unwrap(), last, "{does}");
+    }
+}
+
+/// A remark behind the counts, and edits that a limit alone refuses, are no failure.
+#[test]
+fn remarks_are_no_failure() {
+    let repository = repository("gate-remarks");
+    let ok = "rt: ok; must-fail edits: 2 refused, 1 of them only by a limit; nothing is 3 bad";
+    let does = format!("echo '{ok}'; echo '3 passed, 0 failed (first alone)'\n");
+    repository.write("does/ci", &does);
+    let (passed, lines) = run(&repository);
+    assert!(passed, "{lines:?}");
+    assert_eq!(lines.last().unwrap(), "9 passed, 0 failed");
 }
 
 #[test]

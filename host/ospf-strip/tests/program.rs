@@ -25,7 +25,7 @@ fn printed(input: &[u8]) -> String {
         .stdin(Stdio::piped())
         .stdout(Stdio::piped())
         .spawn()
-        .expect("`rt check dissect` builds the program");
+        .expect("`tools/build dissect` builds the program");
     let mut stdin = child.stdin.take().unwrap();
     // It reads no more than it needs to refuse.
     if let Err(error) = stdin.write_all(input) {

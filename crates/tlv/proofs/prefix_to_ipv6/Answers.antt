@@ -1,4 +1,3 @@
-use Prim.Native.Nat.{◌-◌}
 use native.Mathlib.Omega.{arith}
 use mathlib.Core.Path.{refl}
 use Rattle.tlv.proofs.Loops.{copied_more, copied_short, copied_long}
@@ -8,8 +7,8 @@ use Rattle.tlv.proofs.prefix_to_ipv6.Goals.{then-bytes-lt16, else-bytes-lt16}
 pub loop-i-init : goal.loop-i-init
 loop-i-init c =
     elim c.if-bytes-lt16.branch [
-    | then-bytes-lt16 w ↦ (omega arith, omega arith, omega arith, rw w.n-is (copied_short c.args.bytes.now (omega arith)), refl)
-    | else-bytes-lt16 w ↦ (omega arith, omega arith, omega arith, rw w.n-is (copied_long c.args.bytes.now (omega arith)), refl)
+      | then-bytes-lt16 w ↦ (omega arith, omega arith, omega arith, rw w.n-is (copied_short c.args.bytes.now (omega arith)), refl)
+      | else-bytes-lt16 w ↦ (omega arith, omega arith, omega arith, rw w.n-is (copied_long c.args.bytes.now (omega arith)), refl)
     ]
 
 pub loop-i-preserved : goal.loop-i-preserved
