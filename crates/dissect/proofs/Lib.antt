@@ -1,3 +1,4 @@
 pub mod Bound
 pub mod Turn
 pub mod First
+pub mod Input

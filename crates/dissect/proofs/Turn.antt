@@ -2,10 +2,10 @@
 use Prim.Native.Nat.{ℕ, ◌+◌, ◌≤◌}
 use native.Mathlib.Omega.{arith}
 use native.Mathlib.Nat.{zero-add}
-use mathlib.Core.Path.{◌≡◌, refl, ap, ◌∙◌}
-use mathlib.Core.List.{List, [], ◌∷◌, ◌++◌}
-use lib.ListN.{length, take, drop, length-drop}
-use lib.Seq.{sets-eq, take-append_seam}
+use mathlib.Core.Path.{◌≡◌, refl, ap, sym, ◌∙◌}
+use mathlib.Core.List.{List, [], ◌∷◌, ◌++◌, append_assoc, append-nil}
+use lib.ListN.{length, take, drop, length-drop, take-append-drop, drop_of_length-le}
+use lib.Seq.{sets-eq, take-append_seam, drop-drop}
 use Rattle.format.specs.Bytes.{part}
 use Rattle.format.specs.Wrote.{Wrote}
 use Rattle.format.specs.Pieces.{lines_at, Left}
@@ -43,3 +43,14 @@ module _ (text s : List ℕ) (written place : ℕ) {out out₁ : List ℕ} {k ne
       let i = l.inside in
       let n = length-drop written text in
       omega arith
+
+-- What was cut off the front of a text, and the next part of it.
+pub cut : (text before : List ℕ) (from written : ℕ) (next : List ℕ) → drop from text ≡ before ++ drop written text → next ≡ part text written (length next)
+    → drop from text ≡ (before ++ next) ++ drop (written + length next) text
+cut text before from written next e p =
+    e ∙ ap (λ (t : List ℕ). before ++ t) (sym (take-append-drop (length next) (drop written text)) ∙ rw (← p, drop-drop)) ∙ sym (append_assoc before next _)
+
+-- At its end all is cut off.
+pub all_cut : (text before : List ℕ) (from written : ℕ) → drop from text ≡ before ++ drop written text → written ≡ length text → drop from text ≡ before
+all_cut text before from written e z =
+    e ∙ ap (λ (t : List ℕ). before ++ t) (drop_of_length-le text {i = written} (omega arith)) ∙ append-nil before

@@ -2,7 +2,8 @@
 // line an entry.
 #![tactic(auto)]
 
-ghost use Rattle.std.specs.Prelude.{◌≡◌, ◌+◌, ◌≤◌, length};
+ghost use Rattle.std.specs.Prelude.{◌≡◌, ◌+◌, ◌≤◌, length, drop, IfOk, OnOk, IfSome};
+ghost use Rattle.std.specs.Io.KnownBytes.{Appends};
 ghost use Rattle.format.specs.Bytes.{part};
 ghost use Rattle.format.specs.Print.{printed};
 ghost use Rattle.format.specs.Pieces.{Left};
@@ -10,32 +11,57 @@ ghost use Rattle.format.specs.Pieces.{Left};
 use dissect_input::{MAX_INPUT, run};
 use print_lines::{LINE, answer_line};
 use print_listing::{put_lines, shown_part};
+use read_input::read_full;
+use std::io;
+use std::io::{Read, Write};
 
-fn main() {
+fn main(rt: HostRuntime) -> io::Result<()> {
+    dissect(&mut rt.stdin(), &mut io::writer(&rt))
+}
+
+// The program over any reader and writer: what is written is the text of all that is there to read.
+fn dissect<R: Read, W: Write>(from: &mut R, to: &mut W) -> io::Result<()>
+    ensures { OnOk result (IfSome (R.remaining from.old) (λ input. Appends (W.contents to.old) (W.contents to.new) (printed input))) }
+{
     // One byte more than the most input, so that more is seen.
     let mut input = [0u8; MAX_INPUT + 1];
-    let n = io::read_full(0, &mut input);
-    write_text(&input[..n]);
+    let n = read_full(from, &mut input)?;
+    write_text(to, &input[..n])?;
+    Ok(())
+}
+
+// 65,536 zeros. Only their number is told, which lending the array as a slice needs.
+fn large_buffer() -> [u8; 65536]
+    ensures { 65536 ≡ length result }
+{
+    [0; 65536]
 }
 
 // Writes the text of an input piece by piece, and answers how many bytes went out: all of it.
-fn write_text(input: &[u8]) -> usize
-    ensures { result ≡ length (printed input.now) }
+fn write_text<W: Write>(to: &mut W, input: &[u8]) -> io::Result<usize>
+    ensures count { IfOk result (λ n. n ≡ length (printed input.now)) }
+    ensures bytes { OnOk result (Appends (W.contents to.old) (W.contents to.new) (printed input.now)) }
 {
-    let mut strip = io::large_buffer();
+    let mut strip = large_buffer();
     let answer = run(input, &mut strip);
     let mut line = [0u8; LINE];
     let k = answer_line(&mut line, answer);
-    let written = write_piece(input, 0, &line[..k]);
-    write_entries(input, written, shown_part(&strip, answer))
+    let written = write_piece(to, input, 0, &line[..k])?;
+    write_entries(to, input, written, shown_part(&strip, answer))
 }
 
 // The lines after the first.
-fn write_entries(input: &[u8], first: usize, strip: &[u8]) -> usize
+fn write_entries<W: Write>(
+    to: &mut W,
+    input: &[u8],
+    first: usize,
+    strip: &[u8],
+) -> io::Result<usize>
     requires { Left (printed input.now) first strip.now 0 }
-    ensures { result ≡ length (printed input.now) }
+    ensures count { IfOk result (λ n. n ≡ length (printed input.now)) }
+    ensures bytes { OnOk result (Appends (W.contents to.old) (W.contents to.new) (drop first (printed input.now))) }
 {
-    let mut out = io::large_buffer();
+    let mut out = large_buffer();
     let mut written = first;
     let mut place: usize = 0;
     loop {
@@ -44,19 +70,25 @@ fn write_entries(input: &[u8], first: usize, strip: &[u8]) -> usize
         if k == 0 {
             break;
         }
-        written = write_piece(input, written, &out[..k]);
+        written = write_piece(to, input, written, &out[..k])?;
         place = lines.next;
     }
-    written
+    Ok(written)
 }
 
 // Writes the bytes of the input's text that come after so many. The input is there for the contract: a caller shows that
 // the piece is the next one.
-fn write_piece(input: &[u8], written: usize, piece: &[u8]) -> usize
+fn write_piece<W: Write>(
+    to: &mut W,
+    input: &[u8],
+    written: usize,
+    piece: &[u8],
+) -> io::Result<usize>
     requires piece_value { piece.now ≡ part (printed input.now) written (length piece.now) }
     requires piece_in_bounds { written + length piece.now ≤ length (printed input.now) }
-    ensures { result ≡ written + length piece.now }
+    ensures count { IfOk result (λ n. n ≡ written + length piece.now) }
+    ensures bytes { OnOk result (Appends (W.contents to.old) (W.contents to.new) piece.now) }
 {
-    io::write_all(1, piece);
-    written + piece.len()
+    to.write_all(piece)?;
+    Ok(written + piece.len())
 }

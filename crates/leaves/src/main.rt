@@ -7,9 +7,12 @@ mod prefixes;
 mod readers;
 mod strips;
 
-fn main() {
-    prefixes::run();
-    newness::run();
-    readers::run();
-    strips::run();
+use std::io;
+
+fn main(rt: HostRuntime) -> io::Result<()> {
+    let mut to = io::writer(&rt);
+    prefixes::run(&mut to)?;
+    newness::run(&mut to)?;
+    readers::run(&mut to)?;
+    strips::run(&mut to)
 }

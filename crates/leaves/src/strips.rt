@@ -4,6 +4,8 @@ ghost use Rattle.std.specs.Prelude.{◌≡◌, ◌+◌, ◌≤◌, length};
 
 use print_lines::{LINE, entry_line};
 use replay_text::{line, number, word};
+use std::io;
+use std::io::Write;
 use strip_push::{
     begin_container, end_container, push_bit_at, push_bytes, push_bytes_at, push_ipv4,
     push_ipv4_at, push_ipv6, push_ipv6_at, push_low_bits_at, push_metric24_at, push_u8, push_u8_at,
@@ -12,21 +14,21 @@ use strip_push::{
 };
 use strip_step::{Entry, Step, step_at};
 
-pub fn run() {
+pub fn run(to: &mut impl Write) -> io::Result<()> {
     let mut strip = [0u8; 126];
     kinds(&mut strip);
-    word(b"kinds\n");
-    print_strip(&strip);
+    word(to, b"kinds\n")?;
+    print_strip(to, &strip)?;
     let mut fields = [0u8; 195];
     let body = b"\xfe\xdc\xba\x98\x76\x54\x32\x10\x01\x23\x45\x67\x89\xab\xcd\xef\x85";
     leaves(&mut fields, body);
-    word(b"leaves\n");
-    print_strip(&fields);
+    word(to, b"leaves\n")?;
+    print_strip(to, &fields)?;
     let mut costs = [0u8; 70];
     metrics(&mut costs, b"\x00\xff\xff\xff\xfe\xff\xff\x00");
-    word(b"metrics\n");
-    print_strip(&costs);
-    refusals();
+    word(to, b"metrics\n")?;
+    print_strip(to, &costs)?;
+    refusals(to)
 }
 
 // One entry of each kind, with the largest numbers, and the first of them around the others.
@@ -98,29 +100,29 @@ fn metrics(strip: &mut [u8], body: &[u8])
 }
 
 // The end, and a place beyond it; kinds 0, 11 and 255; each kind's body cut by one byte.
-fn refusals() {
-    word(b"steps\n");
-    print_step(b"", 0);
-    print_step(b"", 1);
-    print_step(b"\x02", 0);
-    print_step(b"\x02", 1);
-    print_step(b"\x02", 2);
-    print_step(b"\x00", 0);
-    print_step(b"\x0b", 0);
-    print_step(b"\xff", 0);
-    print_step(b"\x01........", 0);
-    print_step(b"\x03.........", 0);
-    print_step(b"\x04..........", 0);
-    print_step(b"\x05............", 0);
-    print_step(b"\x06............", 0);
-    print_step(b"\x07........................", 0);
-    print_step(b"\x08........", 0);
-    print_step(b"\x09........", 0);
-    print_step(b"\x0a................", 0);
-    print_step(b"\x08\x01\x00\x00\x00\x02\x00\x00\x00\x03", 0);
+fn refusals(to: &mut impl Write) -> io::Result<()> {
+    word(to, b"steps\n")?;
+    print_step(to, b"", 0)?;
+    print_step(to, b"", 1)?;
+    print_step(to, b"\x02", 0)?;
+    print_step(to, b"\x02", 1)?;
+    print_step(to, b"\x02", 2)?;
+    print_step(to, b"\x00", 0)?;
+    print_step(to, b"\x0b", 0)?;
+    print_step(to, b"\xff", 0)?;
+    print_step(to, b"\x01........", 0)?;
+    print_step(to, b"\x03.........", 0)?;
+    print_step(to, b"\x04..........", 0)?;
+    print_step(to, b"\x05............", 0)?;
+    print_step(to, b"\x06............", 0)?;
+    print_step(to, b"\x07........................", 0)?;
+    print_step(to, b"\x08........", 0)?;
+    print_step(to, b"\x09........", 0)?;
+    print_step(to, b"\x0a................", 0)?;
+    print_step(to, b"\x08\x01\x00\x00\x00\x02\x00\x00\x00\x03", 0)
 }
 
-fn print_strip(strip: &[u8]) {
+fn print_strip(to: &mut impl Write, strip: &[u8]) -> io::Result<()> {
     let mut place: usize = 0;
     let mut turns: u32 = 0;
     while turns < 20 {
@@ -128,31 +130,31 @@ fn print_strip(strip: &[u8]) {
         let Step::Entry(_, next) = step_at(strip, place) else {
             break;
         };
-        print_step(strip, place);
+        print_step(to, strip, place)?;
         place = next;
     }
-    print_step(strip, place);
+    print_step(to, strip, place)
 }
 
-fn print_step(strip: &[u8], place: usize) {
+fn print_step(to: &mut impl Write, strip: &[u8], place: usize) -> io::Result<()> {
     let step = step_at(strip, place);
     match step {
         Step::Entry(entry, next) => {
-            print_entry(entry);
-            word(b"next");
-            number(next as u64);
+            print_entry(to, entry)?;
+            word(to, b"next")?;
+            number(to, next as u64)?;
         }
-        Step::End => word(b"end"),
+        Step::End => word(to, b"end")?,
         Step::Refused(n) => {
-            word(b"refused");
-            number(n as u64);
+            word(to, b"refused")?;
+            number(to, n as u64)?;
         }
     }
-    line();
+    line(to)
 }
 
-fn print_entry(entry: Entry) {
+fn print_entry(to: &mut impl Write, entry: Entry) -> io::Result<()> {
     let mut out = [0u8; LINE];
     let n = entry_line(&mut out, entry);
-    word(&out[..n]);
+    word(to, &out[..n])
 }

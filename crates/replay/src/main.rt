@@ -5,88 +5,98 @@
 mod buffers;
 
 use buffers::{FILE, ROOM, file_buffer, strip_buffer};
+use read_input::read_full;
 use replay_tally::{count_calls, count_different, first_different, whole_calls};
 use replay_text::{line, number, word};
+use std::env::{Env, FillError};
+use std::fs::Files;
+use std::io::{Read, Write};
+use std::{fs, io, str};
 
-fn main() {
-    let count = os::arg_count();
-    let mut i: usize = 1;
-    while i < count {
-        replay_argument(i);
-        i = i + 1;
+fn main(rt: HostRuntime) -> io::Result<()> {
+    let mut to = io::writer(&rt);
+    let mut path = [0u8; 4096];
+    for i in 1..usize::MAX {
+        let n = match rt.arg(i, &mut path) {
+            Ok(n) => n,
+            Err(FillError::TooLong) => 0,
+            Err(FillError::NotPresent) => break,
+        };
+        replay_argument(&rt, &mut to, &path[..n])?;
     }
+    Ok(())
 }
 
-fn replay_argument(i: usize) {
-    let mut path = io::buffer();
-    let n = os::arg(i, &mut path);
-    word(&path[..n]);
-    line();
-    let fd = os::open_read(&path[..n]);
-    if fd < 0 {
-        word(b"not opened\n");
-        return;
-    }
-    replay_file(fd);
-    libc::close(fd);
+fn replay_argument(files: &impl Files, to: &mut impl Write, path: &[u8]) -> io::Result<()> {
+    word(to, path)?;
+    line(to)?;
+    // The library opens what is named by text alone.
+    let Ok(text) = str::from_utf8(path) else {
+        return word(to, b"not opened\n");
+    };
+    let Ok(mut file) = fs::open(files, text) else {
+        return word(to, b"not opened\n");
+    };
+    replay_file(&mut file, to)
 }
 
-fn replay_file(fd: i32) {
+fn replay_file(from: &mut impl Read, to: &mut impl Write) -> io::Result<()> {
     let mut file = file_buffer();
-    let n = io::read_full(fd, &mut file);
+    let n = read_full(from, &mut file)?;
     if n == FILE {
-        word(b"too long\n");
-        return;
+        return word(to, b"too long\n");
     }
-    print_calls(&file[..n]);
-    print_differences(&file[..n]);
+    print_calls(to, &file[..n])?;
+    print_differences(to, &file[..n])
 }
 
 // The number of calls, a line for each walk and block with the calls of number 0 to 5, and whether the file ends with a whole call.
-fn print_calls(file: &[u8]) {
+fn print_calls(to: &mut impl Write, file: &[u8]) -> io::Result<()> {
     let whole = whole_calls(file, ROOM);
-    word(b"calls");
-    number(whole.calls as u64);
-    line();
-    word(b"headers");
-    print_numbers(file, 0);
-    word(b"updates");
-    print_numbers(file, 1);
-    word(b"lsas");
-    print_numbers(file, 2);
-    word(b"lls");
-    print_numbers(file, 3);
-    word(b"trailers");
-    print_numbers(file, 4);
+    word(to, b"calls")?;
+    number(to, whole.calls as u64)?;
+    line(to)?;
+    word(to, b"headers")?;
+    print_numbers(to, file, 0)?;
+    word(to, b"updates")?;
+    print_numbers(to, file, 1)?;
+    word(to, b"lsas")?;
+    print_numbers(to, file, 2)?;
+    word(to, b"lls")?;
+    print_numbers(to, file, 3)?;
+    word(to, b"trailers")?;
+    print_numbers(to, file, 4)?;
     if whole.end == file.len() {
-        word(b"whole\n");
+        word(to, b"whole\n")?;
     } else {
-        word(b"damaged at");
-        number(whole.end as u64);
-        line();
+        word(to, b"damaged at")?;
+        number(to, whole.end as u64)?;
+        line(to)?;
     }
+    Ok(())
 }
 
-fn print_numbers(file: &[u8], walk: u8) {
-    number(count_calls(file, ROOM, walk, 0) as u64);
-    number(count_calls(file, ROOM, walk, 1) as u64);
-    number(count_calls(file, ROOM, walk, 2) as u64);
-    number(count_calls(file, ROOM, walk, 3) as u64);
-    number(count_calls(file, ROOM, walk, 4) as u64);
-    number(count_calls(file, ROOM, walk, 5) as u64);
-    line();
+fn print_numbers(to: &mut impl Write, file: &[u8], walk: u8) -> io::Result<()> {
+    number(to, count_calls(file, ROOM, walk, 0) as u64)?;
+    number(to, count_calls(file, ROOM, walk, 1) as u64)?;
+    number(to, count_calls(file, ROOM, walk, 2) as u64)?;
+    number(to, count_calls(file, ROOM, walk, 3) as u64)?;
+    number(to, count_calls(file, ROOM, walk, 4) as u64)?;
+    number(to, count_calls(file, ROOM, walk, 5) as u64)?;
+    line(to)
 }
 
 // How many calls differ, and the index of the first of them.
-fn print_differences(file: &[u8]) {
+fn print_differences(to: &mut impl Write, file: &[u8]) -> io::Result<()> {
     let mut strip = strip_buffer();
     let different = count_different(file, &mut strip);
-    word(b"different");
-    number(different as u64);
-    line();
+    word(to, b"different")?;
+    number(to, different as u64)?;
+    line(to)?;
     if different != 0 {
-        word(b"first");
-        number(first_different(file, &mut strip) as u64);
-        line();
+        word(to, b"first")?;
+        number(to, first_different(file, &mut strip) as u64)?;
+        line(to)?;
     }
+    Ok(())
 }
