@@ -1,0 +1,29 @@
+use Prim.Native.Nat.{◌+◌, ◌-◌}
+use native.Mathlib.Omega.{arith}
+use mathlib.Core.Path.{◌≡◌}
+use borrow.Author.Rules.{rules}
+use Rattle.format.specs.Strip.{code, encode, container}
+use Rattle.format.specs.Trailer.{auth_trailer_entries}
+use Rattle.format.proofs.Wrote.{then}
+use Rattle.trailer.proofs.write_auth_trailer.Goals as goal
+
+pub push_auth_trailer_fields-b-requires-clause-at_in_bounds : goal.push_auth_trailer_fields-b-requires-clause-at_in_bounds
+unfolding code encode container auth_trailer_entries
+push_auth_trailer_fields-b-requires-clause-at_in_bounds c = search rules
+
+pub push_bytes_at-c-requires-clause-at_in_bounds : goal.push_bytes_at-c-requires-clause-at_in_bounds
+unfolding code encode container auth_trailer_entries
+push_bytes_at-c-requires-clause-at_in_bounds c = search rules
+
+pub end_container-requires : goal.end_container-requires
+unfolding code encode container auth_trailer_entries
+end_container-requires c = search rules
+
+-- Start and end of the block, and of what follows its fixed part, as the code counts them.
+pub returns : goal.returns
+unfolding code encode container auth_trailer_entries
+returns c =
+    let a = c.args in
+    let p : a.o + 0 ≡ a.o = omega arith in
+    let q : a.o + 16 + (a.len - 16) ≡ a.o + a.len = omega (arith, c.requires.le_len) in
+    then (then (then (rw p at c.begin_container_at-a.ensures) c.push_auth_trailer_fields-b.ensures) (rw q at c.push_bytes_at-c.ensures)) c.end_container.ensures
