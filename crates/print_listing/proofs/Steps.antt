@@ -24,8 +24,6 @@ entry_of_lem (entry y p) r x q e h =
 entry_of_lem end r x q e h = let z : ◌≡◌ {A = ℕ} 0 1 = cc in absurd (omega arith)
 entry_of_lem (refused n) r x q e h = let z : ◌≡◌ {A = ℕ} 0 1 = cc in absurd (omega arith)
 
--- The step gave none, by the number of its variant.
-pub no_entry : (t : strip.Step) (r : Step) → r ≡ step.step_of t → OneOf (1 ∷ 2 ∷ []) (tag_of the_type r) → (x : strip.Entry) (q : ℕ) → t ≡ entry x q → ⊥
-no_entry t r e o x q h =
-    let z : r ≡ S.Entry (step.entry_of x) q = e ∙ rw h in
-    ⊎_elim (λ n. omega arith) (λ n. omega arith) (rw z at o)
+-- The step gave none.
+pub no_entry : (t : strip.Step) (r : Step) → r ≡ step.step_of t → ((y : Entry) (p : ℕ) → r ≡ S.Entry y p → ⊥) → (x : strip.Entry) (q : ℕ) → t ≡ entry x q → ⊥
+no_entry t r e n x q h = n (step.entry_of x) q (e ∙ rw h)
