@@ -2,11 +2,13 @@
 use Prim.Native.Nat.{ℕ, ◌≤◌, ◌<◌}
 use native.Mathlib.Nat.{eq-or-lt_of_le}
 use native.Mathlib.Omega.{arith}
+use mathlib.Core.Bool.{Bool, true, false}
 use mathlib.Core.List.{List, []}
 use mathlib.Core.Logic.{◌⊎◌, inl, inr, ⊎_elim}
-use mathlib.Core.Path.{◌≡◌, sym}
+use mathlib.Core.Path.{◌≡◌, refl, sym}
+use lib.Dec.{eqb}
 use lib.ListN.{length}
-use borrow.Author.Tests.{ne_eqb, le-ltb}
+use borrow.Author.Tests.{ne_eqb, le-ltb, eqb-true, eqb-false}
 use Rattle.format.specs.Body.Body.{decoded, raw}
 use Rattle.format.specs.V3.{router_lsa3, network_lsa3, inter_area_prefix_lsa, inter_area_router_lsa, external_lsa3, link_lsa, intra_area_prefix_lsa}
 use Rattle.format.specs.V3.{tlvs, tlv_lsa, body3, e_router_lsa, e_network_lsa, e_link_lsa, e_intra_area_prefix_lsa}
@@ -61,6 +63,16 @@ module _ (f : ℕ) (b : List ℕ) (o : ℕ) where
   unfolding body3
   tlv_body = ⊎_elim (λ e. rw e) (⊎_elim (λ e. rw e) (λ e. rw e))
 
+  -- the same, by what the number is not
+  pub tlv_body_else : ((f ≡ 12 → ⊥) → (f ≡ 39 → ⊥) → (f ≡ 42 → ⊥) → ⊥) → body3 f b o ≡ tlv_lsa 0 [] b o
+  tlv_body_else h = go (eqb f 12) refl (eqb f 39) refl (eqb f 42) refl
+    where
+      go : (s : Bool) → eqb f 12 ≡ s → (t : Bool) → eqb f 39 ≡ t → (u : Bool) → eqb f 42 ≡ u → body3 f b o ≡ tlv_lsa 0 [] b o
+      go true e t k u l = tlv_body (inl (eqb-true f 12 e))
+      go false e true k u l = tlv_body (inr (inl (eqb-true f 39 k)))
+      go false e false k true l = tlv_body (inr (inr (eqb-true f 42 l)))
+      go false e false k false l = absurd (h (eqb-false f 12 e) (eqb-false f 39 k) (eqb-false f 42 l))
+
   pub tlv_body_between : 33 ≤ f → (f ≡ 33 → ⊥) → (f ≡ 34 → ⊥) → f < 38 → body3 f b o ≡ tlv_lsa 0 [] b o
   unfolding body3
   tlv_body_between g x y h =
@@ -75,11 +87,11 @@ module _ (f : ℕ) (b : List ℕ) (o : ℕ) where
   tlvs_alone = rw (le-ltb (length b) 0 (omega arith))
 
   -- no function
-  pub no_body : {R : Type 0} → ((((((((((((R × (f ≡ 1 → ⊥)) × (f ≡ 2 → ⊥)) × (f ≡ 3 → ⊥)) × (f ≡ 4 → ⊥)) × ((f ≡ 5) ⊎ (f ≡ 7) → ⊥)) × (f ≡ 8 → ⊥)) × (f ≡ 9 → ⊥))
-      × ((f ≡ 12) ⊎ ((f ≡ 39) ⊎ (f ≡ 42)) → ⊥)) × (f ≡ 33 → ⊥)) × (f ≡ 34 → ⊥)) × (f ≡ 40 → ⊥)) × (f ≡ 41 → ⊥)) → (35 ≤ f → f < 38 → ⊥)
+  pub no_body : (f ≡ 1 → ⊥) → (f ≡ 2 → ⊥) → (f ≡ 3 → ⊥) → (f ≡ 4 → ⊥) → ((f ≡ 5) ⊎ (f ≡ 7) → ⊥) → (f ≡ 8 → ⊥) → (f ≡ 9 → ⊥)
+      → ((f ≡ 12) ⊎ ((f ≡ 39) ⊎ (f ≡ 42)) → ⊥) → (f ≡ 33 → ⊥) → (f ≡ 34 → ⊥) → (f ≡ 40 → ⊥) → (f ≡ 41 → ⊥) → (35 ≤ f → f < 38 → ⊥)
       → body3 f b o ≡ raw
   unfolding body3
-  no_body ((((((((((((r, h1), h2), h3), h4), h5), h8), h9), h12), h33), h34), h40), h41) h35 =
+  no_body h1 h2 h3 h4 h5 h8 h9 h12 h33 h34 h40 h41 h35 =
       rw (
         ne_eqb f 1 h1,
         ne_eqb f 2 h2,

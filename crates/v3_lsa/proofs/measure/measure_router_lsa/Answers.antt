@@ -2,27 +2,20 @@ use Rattle.body.proofs.Laws.{same_decoded}
 use native.Mathlib.Omega.{arith}
 use mathlib.Core.Path.{refl, sym}
 use lib.ListN.{length}
-use borrow.Author.Rules.{rules}
 use borrow.Author.Tests.{lt-ltb, le-ltb}
 use Rattle.format.specs.Strip.{container, encode, code}
 use Rattle.format.specs.V3.{router_lsa3, link}
 use Rattle.format.proofs.Lists.{whole-after, length_whole}
-use Rattle.v3_lsa.proofs.measure.measure_router_lsa.Statement.{statement}
-use Rattle.v3_lsa.proofs.measure.measure_router_lsa.Tie as tie
+use Rattle.v3_lsa.proofs.measure.measure_router_lsa.Goals as goal
 
-returns : tie.Need-returns
+pub returns-then-body-lt4 : goal.returns-then-body-lt4
 unfolding router_lsa3
-returns c = λ o. rw (lt-ltb (length c.before.args.body.now) 4 (omega arith))
+returns-then-body-lt4 c = λ o. rw (lt-ltb (length c.args.body.now) 4 (omega arith))
 
-returns-2 : tie.Need-returns-2
+pub returns : goal.returns
 unfolding router_lsa3 link container encode code
-returns-2 c =
-    let b = c.before.args.body.now in
+returns c =
+    let b = c.args.body.now in
     λ o.
     let l = length_whole 16 b 4 (omega arith) 15 (link b o) o 76 (λ s. refl) in
     rw (le-ltb (length b) 4 (omega arith)) (same_decoded (omega arith) (sym (whole-after 16 b 4 (omega arith))))
-
-pub measure-router-lsa-spec : {M : Type 1} → statement M
-measure-router-lsa-spec = tie.close (tie.spec
-    returns (λ c. search rules) (λ c. search rules) (λ c. search rules) (λ c. search rules) (λ c. search rules)
-    returns-2)
