@@ -2,17 +2,12 @@
 use Prim.Native.Nat.{ℕ}
 use native.Mathlib.Omega.{arith}
 use mathlib.Core.Path.{◌≡◌, ◌∙◌}
-use mathlib.Core.Logic.{⊎_elim}
-use mathlib.Core.List.{[], ◌∷◌}
-use types.Run.{OneOf}
-use denote.Enum.Declared.{tag_of}
 use Rattle.format.specs.Strip as strip
 use Rattle.format.specs.Strip.Step.{entry, end, refused}
 use Rattle.strip_step.specs.Answers as step
 use Rattle.strip_step.specs.declared.Entry.{Entry}
 use Rattle.strip_step.specs.declared.Step.{Step}
 use Rattle.strip_step.specs.declared.Step.TheVariants as S
-use Rattle.strip_step.specs.contracts.Step.{the_type}
 use Rattle.strip_step.proofs.Entries.{entry_meant}
 
 -- The step gave an entry.

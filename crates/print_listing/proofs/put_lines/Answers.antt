@@ -1,4 +1,3 @@
-use Prim.Native.Nat.{◌-◌}
 use native.Mathlib.Omega.{arith}
 use Rattle.format.proofs.Pieces.{forward}
 use Rattle.print_listing.proofs.Steps.{entry_of_lem, no_entry}

@@ -2,7 +2,7 @@ use Rattle.format.proofs.Loop.{Measuring}
 use Rattle.format.specs.Walks.{header_object}
 use Rattle.format.specs.Cut.{fixed_rule}
 use lib.ListN.{length}
-use Prim.Native.Nat.{ℕ, ◌+◌, ◌-◌, ◌*◌, ◌≤◌}
+use Prim.Native.Nat.{ℕ, ◌+◌, ◌*◌, ◌≤◌}
 use Rattle.walk_headers.proofs.measure_headers.Given as goal
 
 abbrev pub invariant-loop-left : goal.invariant-loop-left
