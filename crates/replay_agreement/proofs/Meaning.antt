@@ -7,7 +7,7 @@ use mathlib.Core.List.{List}
 use native.Mathlib.Omega.{arith}
 use borrow.Author.Tests.{eq-eqb, eqb-true}
 use Rattle.format.specs.Walks.{Answer, answer, answer_of, strip_of}
-use Rattle.format.proofs.SameBytes.{same_bytes, same_bytes_self}
+use Rattle.format.proofs.SameBytes.{same_bytes_lem, same_bytes_self}
 use Rattle.replay_call.specs.Stored.{room_at, answer_at}
 use Rattle.replay_expected.specs.Expected.{same_answer, stored_answer, stored_buffer, lent}
 use Rattle.replay_agreement.specs.Agree.{agrees_at, outcome_at}
@@ -39,6 +39,6 @@ pub agrees_means : (b : List ℕ) (p : ℕ)
     → (agrees_at b p ≡ true) ↔ ((answer_of (outcome_at b p) (room_at b p) ≡ stored_answer b (answer_at b p)) × (strip_of (outcome_at b p) (lent (room_at b p)) ≡ stored_buffer b (answer_at b p) (room_at b p)))
 unfolding agrees_at
 agrees_means b p = (
-  λ e. let d = both _ _ e in (answer_same _ _ d.0, same_bytes _ _ d.1),
+  λ e. let d = both _ _ e in (answer_same _ _ d.0, same_bytes_lem _ _ d.1),
   λ e. rw (e.0, e.1, same_answer_lem (stored_answer b (answer_at b p))) (same_bytes_self _),
 )

@@ -1,14 +1,12 @@
-use Prim.Native.Nat.{ℕ, ◌≤◌, ◌<◌}
 use native.Mathlib.Omega.{arith}
 use mathlib.Core.List.{[]}
 use mathlib.Core.Path.{◌≡◌}
 use Rattle.format.specs.Strip.{encode, code}
 use Rattle.format.specs.V3.{tlv_lsa, body3}
-use Rattle.v3_lsa.proofs.Functions.{router_body, network_body, inter_area_prefix_body, inter_area_router_body, external_body, link_body, intra_area_prefix_body, e_router_body, e_network_body, e_link_body, e_intra_area_prefix_body, tlv_body_else, tlv_body_between, tlvs_alone, tlv_body, no_body}
+use Rattle.v3_lsa.proofs.Functions.{router_body, network_body, inter_area_prefix_body, inter_area_router_body, external_body, link_body, intra_area_prefix_body, e_router_body, e_network_body, e_link_body, e_intra_area_prefix_body, tlv_body_else, tlv_body_between, tlvs_alone, no_body}
 use Rattle.v3_lsa.proofs.push_body.Goals as goal
 use Rattle.v3_lsa.proofs.push_body.Goals.{in-12-1, in_default+else-function-lt33+then-function-lt38}
 use mathlib.Core.Logic.{⊎_elim}
-use Rattle.format.specs.Body.Body.{raw}
 use Rattle.body.proofs.Laws.{pushed_raw}
 
 pub push_router_lsa-requires : goal.push_router_lsa-requires
@@ -94,10 +92,10 @@ push_tlv_body-requires c =
     let o = c.args.o in
     -- the TLVs of a function that has nothing before them
     let alone : body3 c.args.function c.args.body.now o ≡ tlv_lsa 0 [] c.args.body.now o =
-        elim c.in-12-1.branch [
-        | in-12-1 w ↦ tlv_body_else c.args.function c.args.body.now o (λ x y z. omega arith)
-        | in_default+else-function-lt33+then-function-lt38 w ↦ tlv_body_between c.args.function c.args.body.now o (omega arith) (λ e. omega arith) (λ e. omega arith) (omega arith)
-        ] in
+    elim c.in-12-1.branch [
+      | in-12-1 w ↦ tlv_body_else c.args.function c.args.body.now o (λ x y z. omega arith)
+      | in_default+else-function-lt33+then-function-lt38 w ↦ tlv_body_between c.args.function c.args.body.now o (omega arith) (λ e. omega arith) (λ e. omega arith) (omega arith)
+    ] in
     let h = rw (alone, tlvs_alone 0 c.args.body.now o) at c.requires.o_in_bounds in
     omega arith
 
@@ -147,8 +145,8 @@ returns-in_default-2 c = rw (no_body c.args.function c.args.body.now c.args.o
 pub returns-in-12 : goal.returns-in-12
 returns-in-12 c =
     let alone : body3 c.args.function c.args.body.now c.args.o ≡ tlv_lsa 0 [] c.args.body.now c.args.o =
-        elim c.in-12-1.branch [
-        | in-12-1 w ↦ tlv_body_else c.args.function c.args.body.now c.args.o (λ x y z. omega arith)
-        | in_default+else-function-lt33+then-function-lt38 w ↦ tlv_body_between c.args.function c.args.body.now c.args.o (omega arith) (λ e. omega arith) (λ e. omega arith) (omega arith)
-        ] in
+    elim c.in-12-1.branch [
+      | in-12-1 w ↦ tlv_body_else c.args.function c.args.body.now c.args.o (λ x y z. omega arith)
+      | in_default+else-function-lt33+then-function-lt38 w ↦ tlv_body_between c.args.function c.args.body.now c.args.o (omega arith) (λ e. omega arith) (λ e. omega arith) (omega arith)
+    ] in
     rw (alone, tlvs_alone 0 c.args.body.now c.args.o) c.push_tlv_body.ensures

@@ -11,7 +11,6 @@ use lib.ListN.{length}
 use native.Mathlib.Omega.{arith}
 use mathlib.Core.Option.{some}
 use mathlib.Core.List.{[]}
-
 use mathlib.Core.Path.{◌≡◌, refl, sym, ◌∙◌}
 use Prim.Native.Nat.{◌+◌, ◌-◌, ◌*◌, ◌≤◌}
 use Rattle.walk_update.proofs.measure_lsas.Goals as goal
@@ -95,8 +94,8 @@ stopped c =
     let d = c.args.data.now in
     let l = c.loop-left in
     elim c.if-left-eq0.branch [
-    | then-left-eq0 w ↦ let z : l.left ≡ 0 = w.if-left-eq0.true in (rw z refl, w.end-is)
-    | else-left-eq0+in_default w ↦ (cut_none record_rule d l.left l.pos (none_of (record_rule d l.pos) w.record_fits.result w.record_fits.ensures w.in_default.is), w.end-is)
+      | then-left-eq0 w ↦ let z : l.left ≡ 0 = w.if-left-eq0.true in (rw z refl, w.end-is)
+      | else-left-eq0+in_default w ↦ (cut_none record_rule d l.left l.pos (none_of (record_rule d l.pos) w.record_fits.result w.record_fits.ensures w.in_default.is), w.end-is)
     ]
 
 pub returns : goal.returns

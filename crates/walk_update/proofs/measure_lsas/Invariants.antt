@@ -2,7 +2,7 @@ use Rattle.format.proofs.Loop.{Measuring}
 use Rattle.format.specs.Walks.{lsa_object}
 use Rattle.format.specs.Cut.{record_rule}
 use lib.ListN.{length}
-use Prim.Native.Nat.{ℕ, ◌-◌, ◌≤◌}
+use Prim.Native.Nat.{ℕ, ◌≤◌}
 use Rattle.walk_update.proofs.measure_lsas.Given as goal
 
 abbrev pub invariant-loop-left : goal.invariant-loop-left

@@ -1,12 +1,10 @@
-use Prim.Native.Nat.{ℕ, ◌≤◌, ◌<◌}
 use native.Mathlib.Omega.{arith}
 use mathlib.Core.List.{[]}
 use mathlib.Core.Logic.{⊎_elim}
-use mathlib.Core.Path.{◌≡◌, refl}
-use Rattle.format.specs.Body.Body.{raw}
+use mathlib.Core.Path.{refl}
 use Rattle.format.specs.Layout.{entries_at}
 use Rattle.format.specs.Strip.{encode, code}
-use Rattle.format.specs.V3.{router_rows, network_rows, e_link_rows, references, tlv_lsa, body3}
+use Rattle.format.specs.V3.{router_rows, network_rows, e_link_rows, references}
 use Rattle.v3_lsa.proofs.Functions.{router_body, network_body, inter_area_prefix_body, inter_area_router_body, external_body, link_body, intra_area_prefix_body}
 use Rattle.v3_lsa.proofs.Functions.{e_router_body, e_network_body, e_link_body, e_intra_area_prefix_body, tlv_body_else, tlv_body_between, no_body}
 use Rattle.v3_lsa.proofs.measure.measure_body.Goals as goal
@@ -71,6 +69,6 @@ pub returns-in-12 : goal.returns-in-12
 unfolding encode code
 returns-in-12 c = λ o.
     elim c.in-12-1.branch [
-    | in-12-1 w ↦ rw (tlv_body_else c.args.function c.args.body.now o (λ x y z. omega arith)) (c.measure_tlv_lsa-in-12.ensures o [] refl)
-    | in_default+else-function-lt33+then-function-lt38 w ↦ rw (tlv_body_between c.args.function c.args.body.now o (omega arith) (λ e. omega arith) (λ e. omega arith) (omega arith)) (c.measure_tlv_lsa-in-12.ensures o [] refl)
+      | in-12-1 w ↦ rw (tlv_body_else c.args.function c.args.body.now o (λ x y z. omega arith)) (c.measure_tlv_lsa-in-12.ensures o [] refl)
+      | in_default+else-function-lt33+then-function-lt38 w ↦ rw (tlv_body_between c.args.function c.args.body.now o (omega arith) (λ e. omega arith) (λ e. omega arith) (omega arith)) (c.measure_tlv_lsa-in-12.ensures o [] refl)
     ]
