@@ -10,80 +10,80 @@ use mathlib.Core.Logic.{⊎_elim}
 use Rattle.body.proofs.Laws.{pushed_raw}
 
 pub push_router_lsa-requires : goal.push_router_lsa-requires
-push_router_lsa-requires c = let s = c in
+push_router_lsa-requires c =
     record {
-      o_in_bounds = rw (router_body _ _ s.args.o c.in-1.is) at s.requires.o_in_bounds;
-      body_bound = s.requires.body_bound;
+      o_in_bounds = rw (router_body _ _ c.args.o c.in-1.is) at c.requires.o_in_bounds;
+      body_bound = c.requires.body_bound;
     }
 
 pub push_network_lsa-requires : goal.push_network_lsa-requires
-push_network_lsa-requires c = let s = c in
+push_network_lsa-requires c =
     record {
-      o_in_bounds = rw (network_body _ _ s.args.o c.in-2.is) at s.requires.o_in_bounds;
-      body_bound = s.requires.body_bound;
+      o_in_bounds = rw (network_body _ _ c.args.o c.in-2.is) at c.requires.o_in_bounds;
+      body_bound = c.requires.body_bound;
     }
 
 pub push_inter_area_prefix_lsa-requires : goal.push_inter_area_prefix_lsa-requires
-push_inter_area_prefix_lsa-requires c = let s = c in
+push_inter_area_prefix_lsa-requires c =
     record {
-      o_in_bounds = rw (inter_area_prefix_body _ _ s.args.o c.in-3.is) at s.requires.o_in_bounds;
-      body_bound = s.requires.body_bound;
+      o_in_bounds = rw (inter_area_prefix_body _ _ c.args.o c.in-3.is) at c.requires.o_in_bounds;
+      body_bound = c.requires.body_bound;
     }
 
 pub push_inter_area_router_lsa-requires : goal.push_inter_area_router_lsa-requires
-push_inter_area_router_lsa-requires c = let s = c in
+push_inter_area_router_lsa-requires c =
     record {
-      o_in_bounds = rw (inter_area_router_body _ _ s.args.o c.in-4.is) at s.requires.o_in_bounds;
-      body_bound = s.requires.body_bound;
+      o_in_bounds = rw (inter_area_router_body _ _ c.args.o c.in-4.is) at c.requires.o_in_bounds;
+      body_bound = c.requires.body_bound;
     }
 
 pub push_external_lsa-requires : goal.push_external_lsa-requires
-push_external_lsa-requires c = let s = c in
+push_external_lsa-requires c =
     record {
-      o_in_bounds = rw (external_body _ _ s.args.o c.in-5.is) at s.requires.o_in_bounds;
-      body_bound = s.requires.body_bound;
+      o_in_bounds = rw (external_body _ _ c.args.o c.in-5.is) at c.requires.o_in_bounds;
+      body_bound = c.requires.body_bound;
     }
 
 pub push_link_lsa-requires : goal.push_link_lsa-requires
-push_link_lsa-requires c = let s = c in
+push_link_lsa-requires c =
     record {
-      o_in_bounds = rw (link_body _ _ s.args.o c.in-8.is) at s.requires.o_in_bounds;
-      body_bound = s.requires.body_bound;
+      o_in_bounds = rw (link_body _ _ c.args.o c.in-8.is) at c.requires.o_in_bounds;
+      body_bound = c.requires.body_bound;
     }
 
 pub push_intra_area_prefix_lsa-requires : goal.push_intra_area_prefix_lsa-requires
-push_intra_area_prefix_lsa-requires c = let s = c in
+push_intra_area_prefix_lsa-requires c =
     record {
-      o_in_bounds = rw (intra_area_prefix_body _ _ s.args.o c.in-9.is) at s.requires.o_in_bounds;
-      body_bound = s.requires.body_bound;
+      o_in_bounds = rw (intra_area_prefix_body _ _ c.args.o c.in-9.is) at c.requires.o_in_bounds;
+      body_bound = c.requires.body_bound;
     }
 
 pub push_e_router_lsa-requires : goal.push_e_router_lsa-requires
-push_e_router_lsa-requires c = let s = c in
+push_e_router_lsa-requires c =
     record {
-      o_in_bounds = rw (e_router_body _ _ s.args.o c.in-33.is) at s.requires.o_in_bounds;
-      body_bound = s.requires.body_bound;
+      o_in_bounds = rw (e_router_body _ _ c.args.o c.in-33.is) at c.requires.o_in_bounds;
+      body_bound = c.requires.body_bound;
     }
 
 pub push_e_network_lsa-requires : goal.push_e_network_lsa-requires
-push_e_network_lsa-requires c = let s = c in
+push_e_network_lsa-requires c =
     record {
-      o_in_bounds = rw (e_network_body _ _ s.args.o c.in-34.is) at s.requires.o_in_bounds;
-      body_bound = s.requires.body_bound;
+      o_in_bounds = rw (e_network_body _ _ c.args.o c.in-34.is) at c.requires.o_in_bounds;
+      body_bound = c.requires.body_bound;
     }
 
 pub push_e_link_lsa-requires : goal.push_e_link_lsa-requires
-push_e_link_lsa-requires c = let s = c in
+push_e_link_lsa-requires c =
     record {
-      o_in_bounds = rw (e_link_body _ _ s.args.o c.in-40.is) at s.requires.o_in_bounds;
-      body_bound = s.requires.body_bound;
+      o_in_bounds = rw (e_link_body _ _ c.args.o c.in-40.is) at c.requires.o_in_bounds;
+      body_bound = c.requires.body_bound;
     }
 
 pub push_e_intra_area_prefix_lsa-requires : goal.push_e_intra_area_prefix_lsa-requires
-push_e_intra_area_prefix_lsa-requires c = let s = c in
+push_e_intra_area_prefix_lsa-requires c =
     record {
-      o_in_bounds = rw (e_intra_area_prefix_body _ _ s.args.o c.in-41.is) at s.requires.o_in_bounds;
-      body_bound = s.requires.body_bound;
+      o_in_bounds = rw (e_intra_area_prefix_body _ _ c.args.o c.in-41.is) at c.requires.o_in_bounds;
+      body_bound = c.requires.body_bound;
     }
 
 pub push_tlv_body-requires : goal.push_tlv_body-requires
