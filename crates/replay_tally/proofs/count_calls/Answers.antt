@@ -1,6 +1,5 @@
 use native.Mathlib.Omega.{arith}
 use mathlib.Core.Path.{◌≡◌, refl, sym, ◌∙◌}
-use mathlib.Core.Logic.{⊎_elim}
 use mathlib.Core.Option.{some}
 use Rattle.format.specs.Cut.{cut}
 use Rattle.format.proofs.Unique.{cut_none}
@@ -42,8 +41,8 @@ loop-left-preserved c =
     let e = sym c.is_of.ensures in
     calling_turn g (omega arith) (fits (goal.at.loop-left-preserved c).In-Bytes)
     (λ v. elim c.if-is_of.branch [
-    | then-is_of w ↦ count_yes _ _ _ v (e ∙ w.if-is_of.true) w.count-is
-    | else-is_of w ↦ count_no _ _ _ v (e ∙ w.if-is_of.false) w.count-is
+      | then-is_of w ↦ count_yes _ _ _ v (e ∙ w.if-is_of.true) w.count-is
+      | else-is_of w ↦ count_no _ _ _ v (e ∙ w.if-is_of.false) w.count-is
     ])
 
 pub returns-after-loop-left : goal.returns-after-loop-left

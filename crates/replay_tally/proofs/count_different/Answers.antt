@@ -1,7 +1,6 @@
 use native.Mathlib.Omega.{arith}
 use mathlib.Core.Path.{◌≡◌, refl, sym, ap, ◌∙◌}
 use mathlib.Core.Bool.{not}
-use mathlib.Core.Logic.{⊎_elim}
 use mathlib.Core.Option.{some}
 use lib.ListN.{length}
 use Rattle.format.specs.Cut.{cut}
@@ -52,8 +51,8 @@ loop-left-preserved c =
       omega arith,
       calling_turn l.invariant.1 (omega arith) (fits (goal.at.loop-left-preserved c).After-agrees-arg-1) (λ v. (
         elim c.if-not-agrees.branch [
-        | then-not-agrees w ↦ count_yes _ _ _ v.0 (ap not (e ∙ w.if-not-agrees.true)) w.different-is
-        | else-not-agrees w ↦ count_no _ _ _ v.0 (ap not (e ∙ w.if-not-agrees.false)) w.different-is
+          | then-not-agrees w ↦ count_yes _ _ _ v.0 (ap not (e ∙ w.if-not-agrees.true)) w.different-is
+          | else-not-agrees w ↦ count_no _ _ _ v.0 (ap not (e ∙ w.if-not-agrees.false)) w.different-is
         ],
         replayed_more _ _ _ _ v.1 k.ensures.strip_after,
       )),

@@ -2,7 +2,6 @@ use Prim.Native.Nat.{◌-◌}
 use native.Mathlib.Omega.{arith}
 use mathlib.Core.Path.{◌≡◌, refl, sym, ap, ◌∙◌}
 use mathlib.Core.Bool.{not}
-use mathlib.Core.Logic.{⊎_elim}
 use mathlib.Core.List.{[]}
 use mathlib.Core.Option.{some}
 use lib.ListN.{length}
@@ -62,15 +61,15 @@ stopped c =
     let all : cut r f l.left l.pos ≡ [] → Stopped f s.strip.now l.strip (calls (length s.strip.now) f) (length f - l.left) =
     λ e. let d = calling_end l.invariant.1 e in rw (← d.2) (agreed_all d.0) in
     elim c.loop-left-test.branch [
-    | else-loop-left-test w ↦ let z : l.left ≡ 0 = omega arith in rw w.strip-is (all (rw z refl))
-    | then-loop-left-test+in_default w ↦
-        rw w.strip-is (all (cut_none r f l.left l.pos (none_of (r f l.pos) w.call_fits.result w.call_fits.ensures w.in_default.is)))
-    | then-loop-left-test+in-Bytes+then-not-agrees w ↦
-        let n = w.in-Bytes.n in
-        let e = some_of (r f l.pos) n w.call_fits.result w.call_fits.ensures w.in-Bytes.is in
-        let q : length f - l.left ≡ length g.visited = omega (arith, g.now_at.taken) in
-        rw (w.strip-is, q, ← going_next r f (length f) 0 n g w.loop-left-test.true e)
-        (agreed_until g.so_far _ _ (ap not (sym w.agrees.ensures.value ∙ w.if-not-agrees.true)) w.agrees.ensures.strip_after)
+      | else-loop-left-test w ↦ let z : l.left ≡ 0 = omega arith in rw w.strip-is (all (rw z refl))
+      | then-loop-left-test+in_default w ↦
+          rw w.strip-is (all (cut_none r f l.left l.pos (none_of (r f l.pos) w.call_fits.result w.call_fits.ensures w.in_default.is)))
+      | then-loop-left-test+in-Bytes+then-not-agrees w ↦
+          let n = w.in-Bytes.n in
+          let e = some_of (r f l.pos) n w.call_fits.result w.call_fits.ensures w.in-Bytes.is in
+          let q : length f - l.left ≡ length g.visited = omega (arith, g.now_at.taken) in
+          rw (w.strip-is, q, ← going_next r f (length f) 0 n g w.loop-left-test.true e)
+          (agreed_until g.so_far _ _ (ap not (sym w.agrees.ensures.value ∙ w.if-not-agrees.true)) w.agrees.ensures.strip_after)
     ]
 
 pub returns : goal.returns

@@ -1,7 +1,6 @@
 use Prim.{tt}
 use native.Mathlib.Omega.{arith}
 use mathlib.Core.Path.{◌≡◌, refl, sym}
-use mathlib.Core.Logic.{⊎_elim}
 use mathlib.Core.List.{[]}
 use mathlib.Core.Option.{some}
 use Rattle.format.specs.Cut.{cut}
@@ -39,8 +38,8 @@ stopped c =
     let l = c.loop-left in
     let r = call_rule s.most in
     elim c.loop-left-test.branch [
-    | else-loop-left-test w ↦ let z : l.left ≡ 0 = omega arith in rw z refl
-    | then-loop-left-test+in_default w ↦ cut_none r s.file.now l.left l.pos (none_of (r s.file.now l.pos) w.call_fits.result w.call_fits.ensures w.in_default.is)
+      | else-loop-left-test w ↦ let z : l.left ≡ 0 = omega arith in rw z refl
+      | then-loop-left-test+in_default w ↦ cut_none r s.file.now l.left l.pos (none_of (r s.file.now l.pos) w.call_fits.result w.call_fits.ensures w.in_default.is)
     ]
 
 pub returns : goal.returns
