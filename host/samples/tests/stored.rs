@@ -10,8 +10,11 @@ use oracle::{Answer, Call, Outcome, Walk};
 use samples::{Room, Sample, answered, captures_bin, oracle_bin, read, write};
 
 fn stored(name: &str) -> Vec<u8> {
-    let directory = Path::new(env!("CARGO_MANIFEST_DIR")).join("../../samples");
-    fs::read(directory.join(name)).expect("the stored file")
+    let top = Path::new(env!("CARGO_MANIFEST_DIR")).join("../..");
+    let stored = fs::read(top.join("samples").join(name)).expect("the stored file");
+    let replayed = fs::read(top.join("crates/replay/data").join(name)).expect("its copy");
+    assert!(stored == replayed, "{name} is not what is replayed");
+    stored
 }
 
 /// Not compared by `assert_eq`, which would print megabytes.
