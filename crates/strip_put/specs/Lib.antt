@@ -1,1 +1,2 @@
 pub mod Swap
+pub mod Writer

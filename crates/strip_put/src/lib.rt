@@ -5,11 +5,49 @@ ghost use Rattle.std.specs.Prelude.{◌+◌, ◌≤◌, ◌<◌, [], ◌∷◌, 
 ghost use Rattle.format.specs.Bytes.{be16, be32, be64};
 ghost use Rattle.format.specs.Strip.{head};
 ghost use Rattle.format.specs.Wrote.{Wrote};
+ghost use Rattle.strip_put.specs.Writer.{HasRoom, Writes};
 
 use crate::swap::{put_le16, put_le32, put_le64};
 use util::swap::{swap_u16, swap_u32, swap_u64};
 
 mod swap;
+
+// A buffer that is lent to be written, and the place in it where the next bytes go.
+#[derive(Drop)]
+pub struct Writer<'a> {
+    pub buffer: &'a mut [u8],
+    pub at: usize,
+}
+
+impl<'a> Writer<'a> {
+    pub fn put_u8(&mut self, x: u8)
+        requires { HasRoom self.old 1 }
+        ensures { Writes self.old (x ∷ []) self.new }
+    {
+        self.buffer[self.at] = x;
+        self.at += 1;
+    }
+
+    pub fn put(&mut self, bytes: &[u8])
+        requires { HasRoom self.old (length bytes.now) }
+        ensures { Writes self.old bytes.now self.new }
+    {
+        let end = self.at + bytes.len();
+        self.buffer[self.at..end].copy_from_slice(bytes);
+        self.at = end;
+    }
+
+    // An entry up to its value.
+    pub fn put_head(&mut self, kind: u8, id: u8, start: u32, end: u32)
+        requires { HasRoom self.old 10 }
+        ensures { Writes self.old (kind ∷ head id start end) self.new }
+    {
+        self.put_u8(kind);
+        self.put_u8(id);
+        self.put(&start.to_be_bytes());
+        self.put(&end.to_be_bytes());
+    }
+}
 
 pub fn put_u8(strip: &mut [u8], at: usize, x: u8) -> usize
     requires { at < length strip.old }
