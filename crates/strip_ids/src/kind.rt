@@ -1,4 +1,44 @@
-// The kinds of entries, for those who write entries and those who read them: the first byte of each.
+// The kinds of entries, for those who write entries and those who read them: the first byte of each is its kind's number.
+ghost use Rattle.strip_ids.specs.Kind.{Numbers};
+
+use refusal::Refusal;
+
+#[derive(Clone, Copy, PartialEq, Eq, Debug)]
+pub enum Kind {
+    Open = 1,
+    Close = 2,
+    U8 = 3,
+    U16 = 4,
+    U32 = 5,
+    Ipv4 = 6,
+    Ipv6 = 7,
+    Bytes = 8,
+    Unreachable = 9,
+    U64 = 10,
+}
+
+impl TryFrom<u8> for Kind {
+    type Error = Refusal;
+
+    ghost try_from_gives = { Numbers };
+
+    fn try_from(number: u8) -> Result<Kind, Refusal> {
+        match number {
+            1 => Ok(Kind::Open),
+            2 => Ok(Kind::Close),
+            3 => Ok(Kind::U8),
+            4 => Ok(Kind::U16),
+            5 => Ok(Kind::U32),
+            6 => Ok(Kind::Ipv4),
+            7 => Ok(Kind::Ipv6),
+            8 => Ok(Kind::Bytes),
+            9 => Ok(Kind::Unreachable),
+            10 => Ok(Kind::U64),
+            _ => Err(Refusal::NoKind),
+        }
+    }
+}
+
 pub const OPEN: u8 = 1;
 
 pub const CLOSE: u8 = 2;
