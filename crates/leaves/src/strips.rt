@@ -12,7 +12,7 @@ use strip_push::{
     push_u16, push_u16_at, push_u24_at, push_u32, push_u32_at, push_u64, push_u64_at,
     push_unreachable, push_wide16_at,
 };
-use strip_step::{Entry, Step, step_at};
+use strip_step::{Entry, step_at};
 
 pub fn run(to: &mut impl Write) -> io::Result<()> {
     let mut strip = [0u8; 126];
@@ -124,10 +124,8 @@ fn refusals(to: &mut impl Write) -> io::Result<()> {
 
 fn print_strip(to: &mut impl Write, strip: &[u8]) -> io::Result<()> {
     let mut place: usize = 0;
-    let mut turns: u32 = 0;
-    while turns < 20 {
-        turns = turns + 1;
-        let Step::Entry(_, next) = step_at(strip, place) else {
+    for _ in 0..20 {
+        let Ok(Some((_, next))) = step_at(strip, place) else {
             break;
         };
         print_step(to, strip, place)?;
@@ -137,17 +135,16 @@ fn print_strip(to: &mut impl Write, strip: &[u8]) -> io::Result<()> {
 }
 
 fn print_step(to: &mut impl Write, strip: &[u8], place: usize) -> io::Result<()> {
-    let step = step_at(strip, place);
-    match step {
-        Step::Entry(entry, next) => {
+    match step_at(strip, place) {
+        Ok(Some((entry, next))) => {
             print_entry(to, entry)?;
             word(to, b"next")?;
             number(to, next as u64)?;
         }
-        Step::End => word(to, b"end")?,
-        Step::Refused(n) => {
+        Ok(None) => word(to, b"end")?,
+        Err(refusal) => {
             word(to, b"refused")?;
-            number(to, n as u64)?;
+            number(to, refusal.number() as u64)?;
         }
     }
     line(to)

@@ -7,7 +7,7 @@ use Rattle.format.specs.Header as header
 use Rattle.format.specs.Prefix as prefix
 use Rattle.format.specs.Strip as strip
 use Rattle.format.specs.Checksum as checksum
-use Rattle.format.specs.Packed.{word, packed_step, packed_check, packed_making}
+use Rattle.format.specs.Packed.{word, packed_check, packed_making}
 use Rattle.format.proofs.Steps.{steps}
 use Rattle.format.proofs.Comparisons.{entry_small}
 use Rattle.header.specs.Answers.{newness_of}
@@ -17,11 +17,7 @@ use Rattle.checksum.specs.declared.Check.{Check}
 use Rattle.checksum.specs.declared.Check.TheVariants as C
 use Rattle.checksum.specs.declared.Making.{Making}
 use Rattle.checksum.specs.declared.Making.TheVariants as M
-use Rattle.strip_step.specs.Answers.{step_of}
-use Rattle.strip_step.specs.declared.Entry.{Entry}
-use Rattle.strip_step.specs.declared.Step.{Step}
-use Rattle.strip_step.specs.declared.Step.TheVariants as S
-use Rattle.ospf.specs.Answers.{newness_meaning, comparison_meaning, step_meaning}
+use Rattle.ospf.specs.Answers.{newness_meaning, comparison_meaning}
 
 pub newness-meaning : (x : header.Newness) → newness_meaning (newness_of x) ≡ x
 newness-meaning header.Newness.first = refl
@@ -59,21 +55,5 @@ making-packed lsa e f = rw (← f, e) (go (checksum.making lsa))
     go (checksum.Making.made x y) = refl
     go (checksum.Making.refused n) = refl
 
-pub step_packed : (s : List ℕ) (p : ℕ) {x y : Step} → x ≡ step_of (strip.step_at s p) → x ≡ y → packed_step p (step_meaning y) ≡ packed_step p (strip.step_at s p)
-step_packed s p e f = rw (← f, e) (go (strip.step_at s p))
-  where
-    go : (x : strip.Step) → packed_step p (step_meaning (step_of x)) ≡ packed_step p x
-    go (strip.Step.entry x q) = refl
-    go strip.Step.end = refl
-    go (strip.Step.refused n) = refl
-
-pub entry_length : (s : List ℕ) (p : ℕ) (e : Entry) (q : ℕ) → step_of (strip.step_at s p) ≡ S.Entry e q → (p ≤ q) × (q - p < 4294967296)
-entry_length s p e q f = go (strip.step_at s p) refl f
-  where
-    go : (x : strip.Step) → strip.step_at s p ≡ x → step_of x ≡ S.Entry e q → (p ≤ q) × (q - p < 4294967296)
-    go (strip.Step.entry x k) g h =
-        let i : k ≡ q = cc in
-        let j = (((steps s p).gives x k).0 g).4 in
-        (omega arith, omega (arith, entry_small s p))
-    go strip.Step.end g h = let z : ◌≡◌ {A = ℕ} 0 1 = cc in absurd (omega arith)
-    go (strip.Step.refused n) g h = let z : ◌≡◌ {A = ℕ} 0 1 = cc in absurd (omega arith)
+pub entry_length : (s : List ℕ) (p : ℕ) (x : strip.Entry) (q : ℕ) → strip.step_at s p ≡ strip.Step.entry x q → (p ≤ q) × (q - p < 4294967296)
+entry_length s p x q e = let g = (((steps s p).gives x q).0 e).4 in (omega arith, omega (arith, entry_small s p))

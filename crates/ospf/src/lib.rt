@@ -16,7 +16,7 @@ ghost use Rattle.ospf.specs.Answers.{newness_meaning, comparison_meaning};
 
 use checksum::{Check, Making, check_checksum, make_checksum};
 use header::{Newness, newer_lsa};
-use strip_step::{Step, step_at};
+use strip_step::step_at;
 use tlv::{Comparison, Prefix, compare_prefixes, prefix_to_ipv6};
 use trailer::{Block, push_auth_trailer, push_lls};
 
@@ -83,14 +83,15 @@ pub extern "C" fn ospf_prefix_compare(
 }
 
 // The length of the entry that stands at a place of a strip, 0 at its end.
+#[tactic(auto, using(crate::proofs::Meanings::entry_length))]
 #[unsafe(no_mangle)]
 pub extern "C" fn ospf_strip_step(strip: &[u8], place: usize) -> u64
     ensures { result ≡ packed_step place (step_at strip.now place) }
 {
     match step_at(strip, place) {
-        Step::Entry(_, next) => pack(0, next - place),
-        Step::End => pack(0, 0),
-        Step::Refused(n) => pack(n, 0),
+        Ok(Some((_, next))) => pack(0, next - place),
+        Ok(None) => pack(0, 0),
+        Err(refusal) => pack(refusal.number(), 0),
     }
 }
 

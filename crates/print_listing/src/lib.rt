@@ -8,7 +8,6 @@ ghost use Rattle.walk_answer.specs.Answers.{answer_meaning};
 
 use print_lines::{LINE, entry_line};
 use strip_reader::step_from;
-use strip_step::Step;
 use walk_answer::Answer;
 
 // How many bytes the lines have, and the place of the strip where the next ones begin.
@@ -20,6 +19,7 @@ pub struct Lines {
 
 // The lines of the entries from a place on, while the room of a line is left. None is put where there are no more entries,
 // and none into a buffer shorter than LINE.
+#[tactic(auto, using(crate::proofs::Filling::begin, crate::proofs::Filling::turn, crate::proofs::Filling::line_put, format::proofs::Pieces::forward))]
 pub fn put_lines(out: &mut [u8], strip: &[u8], place: usize) -> Lines
     ensures wrote { Wrote out.old 0 (lines_at (length out.old) strip.now place).text out.new result.length }
     ensures next_value { result.next ≡ (lines_at (length out.old) strip.now place).next }
@@ -28,7 +28,7 @@ pub fn put_lines(out: &mut [u8], strip: &[u8], place: usize) -> Lines
     let mut length: usize = 0;
     let mut next = place;
     while LINE <= out.len() - length {
-        let Step::Entry(entry, after) = step_from(strip, next) else {
+        let Ok(Some((entry, after))) = step_from(strip, next) else {
             break;
         };
         length = length + entry_line(&mut out[length..], entry);

@@ -3,36 +3,32 @@
 ghost use Rattle.std.specs.Prelude.{◌≡◌, ◌+◌, length};
 ghost use Rattle.format.specs.Part.{lies_in, part_number, part_place, part_of};
 
-// The refusal of a range that does not lie in the packet.
-const NOT_IN_PACKET: u8 = 9;
+use refusal::Refusal;
 
 // Whether a range lies in a packet of n bytes. No sum is made, so that none can wrap.
+#[tactic(auto, using(format::proofs::Part::without_sum), unfolding(format::specs::Part::lies_in))]
 fn lies_in(n: usize, offset: u64, start: u32, end: u32) -> bool
     ensures { result ≡ lies_in n offset start end }
 {
     let from = start as u64;
     let to = end as u64;
-    if from < offset {
-        return false;
-    }
-    if to < from {
-        return false;
-    }
-    to - offset <= n as u64
+    offset <= from && from <= to && to - offset <= n as u64
 }
 
-// 0, or the number of the refusal.
+// 0, or the number of the refusal: the requirements ask for it by one call, and for the part by another.
+#[tactic(auto, unfolding(format::specs::Part::part_number))]
 pub fn part_number(packet: &[u8], offset: u64, start: u32, end: u32) -> u8
     ensures { result ≡ part_number (length packet.now) offset start end }
 {
     if lies_in(packet.len(), offset, start, end) {
         0
     } else {
-        NOT_IN_PACKET
+        Refusal::NotInPacket.number()
     }
 }
 
 // The part itself; refused, the empty one at the packet's front.
+#[tactic(auto, using(format::proofs::Part::lies), unfolding(format::specs::Part::part_of, format::specs::Part::part_place))]
 pub fn packet_part<'a>(packet: &'a [u8], offset: u64, start: u32, end: u32) -> &'a [u8]
     ensures result_value { result.now ≡ part_of packet.now offset start end }
     ensures ref_ptr_value { result.ref_ptr ≡ (packet.entry.ref_ptr.0, packet.entry.ref_ptr.1 + part_place (length packet.now) offset start end) }

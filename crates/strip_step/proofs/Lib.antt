@@ -1,2 +1,2 @@
-mod KindLaws
 pub mod Entries
+pub mod Steps

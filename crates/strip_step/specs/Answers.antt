@@ -1,14 +1,18 @@
--- The code's entries and answers for those of the definitions, and what an entry of the code says in them. A refusal has the
+-- The code's entries for those of the definitions, and what an entry and an answer of the code say in them. A refusal has the
 -- number that the requirements give it.
-use Rattle.std.specs.Prelude.{ℕ}
+use Rattle.std.specs.Prelude.{ℕ, Option, Some, None, Result, Ok, Err}
+use Rattle.std.proofs.Math.Option.{none, some}
 use Rattle.format.specs.Strip as strip
+use Rattle.format.specs.Strip.{body_length}
 use Rattle.format.specs.Strip.Entry.{opens, closes, u8, u16, u32, ip4, ip6, bytes, unreachable, u64}
 use Rattle.format.specs.Strip.Step.{entry, end, refused}
+use Rattle.refusal.specs.Numbers.{number_of}
+use Rattle.strip_ids.specs.Kind.{number_of as kind_number}
+use Rattle.strip_ids.specs.declared.kind.Kind.{Kind}
+use Rattle.refusal.specs.declared.Refusal.{Refusal}
 use Rattle.strip_step.specs.declared.Field.{Field}
 use Rattle.strip_step.specs.declared.Entry.{Entry}
 use Rattle.strip_step.specs.declared.Entry.TheVariants as E
-use Rattle.strip_step.specs.declared.Step.{Step}
-use Rattle.strip_step.specs.declared.Step.TheVariants as S
 
 abbrev pub field_of : (id start end : ℕ) → Field
 field_of i s e = record { id = i; start = s; end = e }
@@ -38,7 +42,12 @@ entry_meaning (E.Bytes f) = bytes f.id f.start f.end
 entry_meaning (E.Unreachable f) = unreachable f.id f.start f.end
 entry_meaning (E.U64 f v) = u64 f.id f.start f.end v
 
-abbrev pub step_of : strip.Step → Step
-step_of (entry x next) = S.Entry (entry_of x) next
-step_of end = S.End
-step_of (refused n) = S.Refused n
+-- What a step's answer says.
+abbrev pub step_meaning : Result (Option (Entry × ℕ)) Refusal → strip.Step
+step_meaning (Ok (Some (x, next))) = entry (entry_meaning x) next
+step_meaning (Ok None) = end
+step_meaning (Err r) = refused (number_of r)
+
+-- How many bytes a kind's body has.
+abbrev pub length_of : Kind → ℕ
+length_of k = elim (body_length (kind_number k)) [ none ↦ 0 | some n ↦ n ]

@@ -1,20 +1,22 @@
-// The step of the strip reader, on a strip and a place: the entry that stands there and the next place, the end, or a
-// refusal's number.
+// The step of the strip reader, on a strip and a place: the entry that stands there and the next place, nothing at the end, or
+// a refusal.
 #![tactic(auto)]
 
 ghost use Rattle.std.specs.Prelude.{◌≡◌, ◌+◌, ◌≤◌, length, get_or};
 ghost use Rattle.format.specs.Bytes.{be32_at};
-ghost use Rattle.format.specs.Strip.{body_at, step_at};
-ghost use Rattle.strip_step.specs.Answers.{field_of, step_of};
+ghost use Rattle.format.specs.Strip.{entry_at, step_at};
+ghost use Rattle.strip_ids.specs.Kind.{number_of};
+ghost use Rattle.strip_step.specs.Answers.{entry_meaning, field_of, length_of, step_meaning};
 
+use refusal::Refusal;
 use strip_ids::kind::{
-    BYTES, BYTES_BODY, CLOSE, CLOSE_BODY, IPV4, IPV4_BODY, IPV6, IPV6_BODY, OPEN, OPEN_BODY, U8,
-    U8_BODY, U16, U16_BODY, U32, U32_BODY, U64, U64_BODY, UNREACHABLE, UNREACHABLE_BODY,
+    BYTES_BODY, CLOSE_BODY, IPV4_BODY, IPV6_BODY, Kind, OPEN_BODY, U8_BODY, U16_BODY, U32_BODY,
+    U64_BODY, UNREACHABLE_BODY,
 };
 use util::{read_be_u16, read_be_u32, read_be_u64};
 
 // Where a field lies: its id, and its range in the packet.
-#[derive(Clone, Copy)]
+#[derive(Clone, Copy, PartialEq, Eq, Debug)]
 pub struct Field {
     pub id: u8,
     pub start: u32,
@@ -23,7 +25,7 @@ pub struct Field {
 
 // An entry: its field, and the value. An IPv4 address is the number of its bytes, an IPv6 address the numbers of its two
 // halves.
-#[derive(Clone, Copy)]
+#[derive(Clone, Copy, PartialEq, Eq, Debug)]
 pub enum Entry {
     Open(Field),
     Close,
@@ -37,107 +39,63 @@ pub enum Entry {
     U64(Field, u64),
 }
 
-#[derive(Clone, Copy)]
-pub enum Step {
-    Entry(Entry, usize),
-    End,
-    Refused(u8),
-}
-
-// The refusals of a step, in their order: the place is beyond the strip, no kind has this number, the entry is cut.
-const PLACE_BEYOND: u8 = 6;
-
-const NO_KIND: u8 = 7;
-
-const ENTRY_CUT: u8 = 8;
-
-pub fn step_at(strip: &[u8], place: usize) -> Step
-    ensures { result ≡ step_of (step_at strip.now place) }
+#[tactic(auto, unfolding(format::specs::Strip::step_at))]
+pub fn step_at(strip: &[u8], place: usize) -> Result<Option<(Entry, usize)>, Refusal>
+    ensures { step_meaning result ≡ step_at strip.now place }
 {
     if strip.len() < place {
-        return Step::Refused(PLACE_BEYOND);
+        return Err(Refusal::PlaceBeyond);
     }
     if place == strip.len() {
-        return Step::End;
+        return Ok(None);
     }
-    body_at(strip[place], strip, place + 1)
+    let kind = Kind::try_from(strip[place])?;
+    let body = place + 1;
+    let length = body_length(kind);
+    if strip.len() - body < length {
+        return Err(Refusal::EntryCut);
+    }
+    Ok(Some((entry_at(kind, strip, body), body + length)))
 }
 
-// What stands where the kind's byte has been read, and its body begins at q. The one place where a strip's kinds are told apart.
-fn body_at(kind: u8, strip: &[u8], q: usize) -> Step
-    requires { q ≤ length strip.now }
-    ensures { result ≡ step_of (body_at kind strip.now q) }
+// How many bytes follow the kind's byte.
+fn body_length(kind: Kind) -> usize
+    ensures { result ≡ length_of kind }
 {
-    let left = strip.len() - q;
     match kind {
-        OPEN => {
-            if left < OPEN_BODY {
-                return Step::Refused(ENTRY_CUT);
-            }
-            let entry = Entry::Open(field_at(strip, q));
-            Step::Entry(entry, q + OPEN_BODY)
-        }
-        CLOSE => Step::Entry(Entry::Close, q + CLOSE_BODY),
-        U8 => {
-            if left < U8_BODY {
-                return Step::Refused(ENTRY_CUT);
-            }
-            let entry = Entry::U8(field_at(strip, q), strip[q + 9]);
-            Step::Entry(entry, q + U8_BODY)
-        }
-        U16 => {
-            if left < U16_BODY {
-                return Step::Refused(ENTRY_CUT);
-            }
-            let entry = Entry::U16(field_at(strip, q), read_be_u16(strip, q + 9));
-            Step::Entry(entry, q + U16_BODY)
-        }
-        U32 => {
-            if left < U32_BODY {
-                return Step::Refused(ENTRY_CUT);
-            }
-            let entry = Entry::U32(field_at(strip, q), read_be_u32(strip, q + 9));
-            Step::Entry(entry, q + U32_BODY)
-        }
-        IPV4 => {
-            if left < IPV4_BODY {
-                return Step::Refused(ENTRY_CUT);
-            }
-            let entry = Entry::Ipv4(field_at(strip, q), read_be_u32(strip, q + 9));
-            Step::Entry(entry, q + IPV4_BODY)
-        }
-        IPV6 => {
-            if left < IPV6_BODY {
-                return Step::Refused(ENTRY_CUT);
-            }
-            let field = field_at(strip, q);
+        Kind::Open => OPEN_BODY,
+        Kind::Close => CLOSE_BODY,
+        Kind::U8 => U8_BODY,
+        Kind::U16 => U16_BODY,
+        Kind::U32 => U32_BODY,
+        Kind::Ipv4 => IPV4_BODY,
+        Kind::Ipv6 => IPV6_BODY,
+        Kind::Bytes => BYTES_BODY,
+        Kind::Unreachable => UNREACHABLE_BODY,
+        Kind::U64 => U64_BODY,
+    }
+}
+
+// The entry of a kind whose body begins at q, and is whole.
+fn entry_at(kind: Kind, strip: &[u8], q: usize) -> Entry
+    requires { q + length_of kind ≤ length strip.now }
+    ensures { entry_meaning result ≡ entry_at (number_of kind) strip.now q }
+{
+    match kind {
+        Kind::Open => Entry::Open(field_at(strip, q)),
+        Kind::Close => Entry::Close,
+        Kind::U8 => Entry::U8(field_at(strip, q), strip[q + 9]),
+        Kind::U16 => Entry::U16(field_at(strip, q), read_be_u16(strip, q + 9)),
+        Kind::U32 => Entry::U32(field_at(strip, q), read_be_u32(strip, q + 9)),
+        Kind::Ipv4 => Entry::Ipv4(field_at(strip, q), read_be_u32(strip, q + 9)),
+        Kind::Ipv6 => {
             let high = read_be_u64(strip, q + 9);
             let low = read_be_u64(strip, q + 17);
-            let entry = Entry::Ipv6(field, high, low);
-            Step::Entry(entry, q + IPV6_BODY)
+            Entry::Ipv6(field_at(strip, q), high, low)
         }
-        BYTES => {
-            if left < BYTES_BODY {
-                return Step::Refused(ENTRY_CUT);
-            }
-            let entry = Entry::Bytes(field_at(strip, q));
-            Step::Entry(entry, q + BYTES_BODY)
-        }
-        UNREACHABLE => {
-            if left < UNREACHABLE_BODY {
-                return Step::Refused(ENTRY_CUT);
-            }
-            let entry = Entry::Unreachable(field_at(strip, q));
-            Step::Entry(entry, q + UNREACHABLE_BODY)
-        }
-        U64 => {
-            if left < U64_BODY {
-                return Step::Refused(ENTRY_CUT);
-            }
-            let entry = Entry::U64(field_at(strip, q), read_be_u64(strip, q + 9));
-            Step::Entry(entry, q + U64_BODY)
-        }
-        _ => Step::Refused(NO_KIND),
+        Kind::Bytes => Entry::Bytes(field_at(strip, q)),
+        Kind::Unreachable => Entry::Unreachable(field_at(strip, q)),
+        Kind::U64 => Entry::U64(field_at(strip, q), read_be_u64(strip, q + 9)),
     }
 }
 
