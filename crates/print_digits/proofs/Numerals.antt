@@ -1,24 +1,20 @@
--- How numbers and addresses are written, digit by digit, how long they are, and the room that they leave.
+-- How numbers and addresses are written, digit by digit, and how long they are.
 use Prim.Native.Nat.{ℕ, zero, suc, ◌+◌, ◌-◌, ◌/◌, ◌%◌, ◌≤◌, ◌<◌}
 use native.Mathlib.Omega.{arith}
 use mathlib.Core.Path.{◌≡◌, refl}
+use mathlib.Core.Logic.{◌⊎◌}
 use mathlib.Core.Bool.{Bool, true, false, cond}
-use mathlib.Core.List.{List, [], ◌∷◌, ◌++◌}
+use mathlib.Core.List.{[], ◌∷◌, ◌++◌}
 use lib.ListN.{length, length-append}
 use lib.Dec.{ltb}
 use borrow.Author.Tests.{lt-ltb, le-ltb}
 use Rattle.format.specs.Print.{digits, hex_digit, hex, spaced, dot, place, dotted}
-use Rattle.format.specs.Wrote.{Wrote}
-use Rattle.format.proofs.Wrote.{kept}
+use Rattle.std.proofs.lemmas.Grind.{common_steps}
 
-pub digits_last : (n : ℕ) → digits 0 n ≡ (48 + n % 10) ∷ []
-unfolding digits
-digits_last n = refl
-
-pub digits_one : (k n : ℕ) → n < 10 → digits k n ≡ (48 + n % 10) ∷ []
+pub digits_one : (k n : ℕ) → (k ≡ 0) ⊎ (n < 10) → digits k n ≡ (48 + n % 10) ∷ []
 unfolding digits
 digits_one zero n h = refl
-digits_one (suc k) n h = rw (lt-ltb n 10 h)
+digits_one (suc k) n h = rw (lt-ltb n 10 (grind arith))
 
 pub digits_more : (k n : ℕ) → 0 < k → 10 ≤ n → digits k n ≡ digits (k - 1) (n / 10) ++ ((48 + n % 10) ∷ [])
 unfolding digits
@@ -69,6 +65,5 @@ length-dotted a =
     let h = length-append (dot (a / 256 % 256)) (digits 19 (a % 256)) in
     omega arith
 
--- A text of at most n bytes, written where there is room for n and m, leaves room for m.
-pub room_after : {l₀ l text : List ℕ} {at a : ℕ} (n m : ℕ) → Wrote l₀ at text l a → length text ≤ n → at + (n + m) ≤ length l₀ → a + m ≤ length l
-room_after n m w short room = let k = kept w in omega (arith, w.place)
+-- What the search goes by where it shows that there is room.
+pub ruleset lengths = (common_steps, length_digits, length-hex, length-spaced, length-dot)

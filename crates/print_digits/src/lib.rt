@@ -1,103 +1,80 @@
-// Words, decimal numbers, hexadecimal numbers and addresses, as text. Each function writes from a place on and answers the
-// next place.
-#![tactic(auto)]
+// Decimal numbers, hexadecimal numbers and addresses as text, each from the place on where a writer stands.
+#![tactic(auto, using(crate::proofs::Numerals::lengths))]
 
-ghost use Rattle.std.specs.Prelude.{◌≡◌, ◌+◌, ◌≤◌, ◌<◌, length};
-ghost use Rattle.format.specs.Wrote.{Wrote};
+ghost use Rattle.std.specs.Prelude.{◌≡◌, ◌+◌, ◌<◌};
+ghost use Rattle.strip_put.specs.Writer.{HasRoom, Writes};
 ghost use Rattle.format.specs.Print.{digits, spaced, hex_digit, hex, place, dot, dotted};
 
-use strip_put::put_u8;
-
-pub const SPACE: u8 = 32;
-
-const DOT: u8 = 46;
+use strip_put::Writer;
 
 // One less than the most digits of a number of 64 bits.
 const MORE: usize = 19;
 
 // The number in decimal, of at most one digit more than k.
-pub fn put_digits(out: &mut [u8], at: usize, n: u64, k: usize) -> usize
-    requires { at + (k + 1) ≤ length out.old }
-    ensures { Wrote out.old at (digits k n) out.new result }
+pub fn put_digits(out: &mut Writer<'_>, n: u64, k: usize)
+    requires { HasRoom out.old (k + 1) }
+    ensures { Writes out.old (digits k n) out.new }
 {
-    let digit = 48 + (n % 10) as u8;
-    if k == 0 {
-        return put_u8(out, at, digit);
+    if k > 0 && n >= 10 {
+        put_digits(out, n / 10, k - 1);
     }
-    if n < 10 {
-        return put_u8(out, at, digit);
-    }
-    let a = put_digits(out, at, n / 10, k - 1);
-    put_u8(out, a, digit)
+    out.put_u8(b'0' + (n % 10) as u8);
 }
 
 fn hex_digit(d: u8) -> u8
     requires { d < 16 }
     ensures { result ≡ hex_digit d }
 {
-    if d < 10 { 48 + d } else { 87 + d }
+    if d < 10 { b'0' + d } else { b'a' + (d - 10) }
 }
 
 // The last k digits in base 16.
-pub fn put_hex(out: &mut [u8], at: usize, n: u64, k: usize) -> usize
-    requires { at + k ≤ length out.old }
-    ensures { Wrote out.old at (hex k n) out.new result }
+pub fn put_hex(out: &mut Writer<'_>, n: u64, k: usize)
+    requires { HasRoom out.old k }
+    ensures { Writes out.old (hex k n) out.new }
 {
-    if k == 0 {
-        return at;
+    if k > 0 {
+        put_hex(out, n / 16, k - 1);
+        out.put_u8(hex_digit((n % 16) as u8));
     }
-    let a = put_hex(out, at, n / 16, k - 1);
-    put_u8(out, a, hex_digit((n % 16) as u8))
-}
-
-pub fn put_word(out: &mut [u8], at: usize, word: &[u8]) -> usize
-    requires { at + length word.now ≤ length out.old }
-    ensures { Wrote out.old at word.now out.new result }
-{
-    let mut a = at;
-    let mut i: usize = 0;
-    while i < word.len() {
-        a = put_u8(out, a, word[i]);
-        i = i + 1;
-    }
-    a
 }
 
 // A number after a space.
-pub fn put_spaced(out: &mut [u8], at: usize, n: u64) -> usize
-    requires { at + 21 ≤ length out.old }
-    ensures { Wrote out.old at (spaced n) out.new result }
+pub fn put_spaced(out: &mut Writer<'_>, n: u64)
+    requires { HasRoom out.old 21 }
+    ensures { Writes out.old (spaced n) out.new }
 {
-    let a = put_u8(out, at, SPACE);
-    put_digits(out, a, n, MORE)
+    out.put_u8(b' ');
+    put_digits(out, n, MORE);
 }
 
 // Id, start and end.
-pub fn put_place(out: &mut [u8], at: usize, id: u8, start: u32, end: u32) -> usize
-    requires { at + 63 ≤ length out.old }
-    ensures { Wrote out.old at (place id start end) out.new result }
+pub fn put_place(out: &mut Writer<'_>, id: u8, start: u32, end: u32)
+    requires { HasRoom out.old 63 }
+    ensures { Writes out.old (place id start end) out.new }
 {
-    let a = put_spaced(out, at, id as u64);
-    let b = put_spaced(out, a, start as u64);
-    put_spaced(out, b, end as u64)
+    put_spaced(out, id as u64);
+    put_spaced(out, start as u64);
+    put_spaced(out, end as u64);
 }
 
 // A number and a dot.
-fn put_dot(out: &mut [u8], at: usize, n: u64) -> usize
-    requires { at + 21 ≤ length out.old }
-    ensures { Wrote out.old at (dot n) out.new result }
+fn put_dot(out: &mut Writer<'_>, n: u64)
+    requires { HasRoom out.old 21 }
+    ensures { Writes out.old (dot n) out.new }
 {
-    let a = put_digits(out, at, n, MORE);
-    put_u8(out, a, DOT)
+    put_digits(out, n, MORE);
+    out.put_u8(b'.');
 }
 
 // The four bytes of an address, joined by dots.
-pub fn put_dotted(out: &mut [u8], at: usize, address: u32) -> usize
-    requires { at + 83 ≤ length out.old }
-    ensures { Wrote out.old at (dotted address) out.new result }
+pub fn put_dotted(out: &mut Writer<'_>, address: u32)
+    requires { HasRoom out.old 83 }
+    ensures { Writes out.old (dotted address) out.new }
 {
-    let a = put_dot(out, at, (address / 16777216) as u64);
-    let b = put_dot(out, a, (address / 65536 % 256) as u64);
-    let c = put_dot(out, b, (address / 256 % 256) as u64);
-    put_digits(out, c, (address % 256) as u64, MORE)
+    let [a, b, c, d] = address.to_be_bytes();
+    put_dot(out, a as u64);
+    put_dot(out, b as u64);
+    put_dot(out, c as u64);
+    put_digits(out, d as u64, MORE);
 }

@@ -31,22 +31,19 @@ pub fn put_lines(out: &mut [u8], strip: &[u8], place: usize) -> Lines
         let Ok(Some((entry, after))) = step_from(strip, next) else {
             break;
         };
-        length = length + entry_line(&mut out[length..], entry);
+        length += entry_line(&mut out[length..], entry);
         next = after;
     }
     Lines { length, next }
 }
 
 // The part of the strip buffer whose entries are printed: nothing where the answer is a refusal.
+#[tactic(auto, unfolding(format::specs::Pieces::shown_part))]
 pub fn shown_part(strip: &[u8], answer: Answer) -> &[u8]
     ensures { result.now ≡ shown_part (answer_meaning answer) strip.now }
 {
-    let length = answer.length;
     if answer.number != 0 {
-        return &strip[..0];
+        return &[];
     }
-    if strip.len() < length {
-        return strip;
-    }
-    &strip[..length]
+    &strip[..answer.length.min(strip.len())]
 }
