@@ -1,14 +1,16 @@
 -- Bytes that are the same: what it means, and how they are compared one by one or part by part.
-use Prim.Native.Nat.{ℕ, suc, ◌+◌, ◌≤◌, ◌<◌}
+use Prim.Native.Nat.{ℕ, ◌+◌, ◌≤◌, ◌<◌}
 use native.Mathlib.Numerals.{add-one}
 use native.Mathlib.Omega.{arith}
-use mathlib.Core.Path.{◌≡◌, refl, sym, ap, ◌∙◌}
-use mathlib.Core.Bool.{Bool, true, false, cond}
+use mathlib.Core.Path.{◌≡◌, refl, sym, ◌∙◌}
+use mathlib.Core.Bool.{Bool, true, false, cond, ◌&&◌}
 use mathlib.Core.List.{List, [], ◌∷◌, ◌++◌}
-use lib.ListN.{length, get_or, take, drop, drop_of_length-le, take-append-drop}
-use lib.Seq.{drop-cons, length-take-le}
+use lib.ListN.{length, get_or, take, drop, drop_of_length-le}
+use lib.Seq.{drop-cons}
 use lib.Dec.{eqb}
+use lib.Pointwise.{pointwise}
 use borrow.Author.Tests.{eq-eqb, ne_eqb, eqb-true}
+use Rattle.std.specs.Prelude.{IsTrue, ◌↔◌}
 use Rattle.format.specs.Bytes.{same_bytes}
 
 pub same_bytes_lem : (xs ys : List ℕ) → same_bytes xs ys ≡ true → xs ≡ ys
@@ -44,29 +46,35 @@ pub same_end : (a b : List ℕ) (i : ℕ) → length a ≤ i → length b ≤ i 
 unfolding same_bytes
 same_end a b i h k = rw (drop_of_length-le a h, drop_of_length-le b k)
 
-pub same_lengths : (a b : List ℕ) → (length a ≡ length b → ⊥) → same_bytes a b ≡ false
+-- two parts after each other, the first as long as x
+pub same_parts : (s x y : List ℕ) → same_bytes s (x ++ y) ≡ cond (same_bytes (take (length x) s) x) (same_bytes (drop (length x) s) y) false
 unfolding same_bytes
-same_lengths [] [] h = absurd (h refl)
-same_lengths [] (y ∷ ys) h = refl
-same_lengths (x ∷ xs) [] h = refl
-same_lengths (x ∷ xs) (y ∷ ys) h = go (eqb x y) (same_lengths xs ys (λ e. h (ap suc e)))
+same_parts s [] y = refl
+same_parts [] (u ∷ x) y = refl
+same_parts (v ∷ s) (u ∷ x) y = go (eqb v u) (same_parts s x y)
   where
-    go : (t : Bool) → same_bytes xs ys ≡ false → cond t (same_bytes xs ys) false ≡ false
+    go : (t : Bool) → same_bytes s (x ++ y) ≡ cond (same_bytes (take (length x) s) x) (same_bytes (drop (length x) s) y) false
+        → cond t (same_bytes s (x ++ y)) false ≡ cond (cond t (same_bytes (take (length x) s) x) false) (same_bytes (drop (length x) s) y) false
     go true e = e
     go false e = refl
 
--- two parts after each other, the first ones of one length
-pub same_append : (a x b y : List ℕ) → length a ≡ length x → same_bytes (a ++ b) (x ++ y) ≡ cond (same_bytes a x) (same_bytes b y) false
+-- what `==` of the code answers
+pub pointwise_same : (xs ys : List ℕ) → pointwise eqb xs ys ≡ same_bytes xs ys
 unfolding same_bytes
-same_append [] [] b y h = refl
-same_append [] (u ∷ x) b y h = absurd (omega arith)
-same_append (v ∷ a) [] b y h = absurd (omega arith)
-same_append (v ∷ a) (u ∷ x) b y h = go (eqb v u) (same_append a x b y (omega arith))
+pointwise_same [] [] = refl
+pointwise_same [] (y ∷ ys) = refl
+pointwise_same (x ∷ xs) [] = refl
+pointwise_same (x ∷ xs) (y ∷ ys) = go (eqb x y) (pointwise_same xs ys)
   where
-    go : (t : Bool) → same_bytes (a ++ b) (x ++ y) ≡ cond (same_bytes a x) (same_bytes b y) false
-        → cond t (same_bytes (a ++ b) (x ++ y)) false ≡ cond (cond t (same_bytes a x) false) (same_bytes b y) false
+    go : (t : Bool) → pointwise eqb xs ys ≡ same_bytes xs ys → (t && pointwise eqb xs ys) ≡ cond t (same_bytes xs ys) false
     go true e = e
     go false e = refl
 
-pub same_parts : (s x y : List ℕ) (k : ℕ) → k ≤ length s → length x ≡ k → same_bytes s (x ++ y) ≡ cond (same_bytes (take k s) x) (same_bytes (drop k s) y) false
-same_parts s x y k h e = ap (λ (l : List ℕ). same_bytes l (x ++ y)) (sym (take-append-drop k s)) ∙ same_append (take k s) x (drop k s) y (length-take-le k s h ∙ sym e)
+-- a test that tells whether they are the same
+pub same_told : (t : Bool) (xs ys : List ℕ) → IsTrue t ↔ (xs ≡ ys) → t ≡ same_bytes xs ys
+same_told true xs ys h = rw (h.0 refl) (sym (same_bytes_self ys))
+same_told false xs ys h = go (same_bytes xs ys) refl
+  where
+    go : (t : Bool) → same_bytes xs ys ≡ t → false ≡ t
+    go true e = h.1 (same_bytes_lem xs ys e)
+    go false e = refl

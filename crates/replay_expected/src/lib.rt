@@ -2,7 +2,7 @@
 // file.
 #![tactic(auto)]
 
-ghost use Rattle.std.specs.Prelude.{◌≡◌, ◌+◌, ◌≤◌, length};
+ghost use Rattle.std.specs.Prelude.{◌≡◌, ◌+◌, ◌≤◌, ◌↔◌, length, IsTrue};
 ghost use Rattle.format.specs.Bytes.{same_bytes};
 ghost use Rattle.walk_answer.specs.Answers.{answer_meaning};
 ghost use Rattle.replay_call.specs.Stored.{kept_at};
@@ -16,20 +16,15 @@ use walk_answer::Answer;
 pub const FILL: u8 = 165;
 
 // Whether the answer is the one that is stored at q.
+#[tactic(auto, unfolding(crate::specs::Expected::same_answer))]
 pub fn is_answer(a: Answer, file: &[u8], q: usize) -> bool
     requires { q + 13 ≤ length file.now }
     ensures { result ≡ same_answer (answer_meaning a) (stored_answer file.now q) }
 {
-    if a.number != file[q] {
-        return false;
-    }
-    if a.length != read_be_u32(file, q + 1) as usize {
-        return false;
-    }
-    if a.records != read_be_u32(file, q + 5) as usize {
-        return false;
-    }
-    a.tail == read_be_u32(file, q + 9) as usize
+    a.number == file[q]
+        && a.length == read_be_u32(file, q + 1) as usize
+        && a.records == read_be_u32(file, q + 5) as usize
+        && a.tail == read_be_u32(file, q + 9) as usize
 }
 
 // Whether the buffer is the strip that is stored after the answer at q, and then as it was filled.
@@ -37,43 +32,13 @@ pub fn is_buffer(strip: &[u8], file: &[u8], q: usize) -> bool
     requires { q + 13 + kept_at file.now q ≤ length file.now }
     ensures { result ≡ same_bytes strip.now (stored_buffer file.now q (length strip.now)) }
 {
-    let kept = kept_at(file, q);
-    if strip.len() < kept {
-        return false;
-    }
     let start = q + ANSWER;
-    let end = start + kept;
-    if !same(&strip[..kept], &file[start..end]) {
-        return false;
-    }
-    is_filled(&strip[kept..])
+    let kept = &file[start..start + kept_at(file, q)];
+    strip.strip_prefix(kept).is_some_and(is_filled)
 }
 
-fn same(a: &[u8], b: &[u8]) -> bool
-    ensures { result ≡ same_bytes a.now b.now }
+fn is_filled(rest: &[u8]) -> bool
+    ensures { IsTrue result ↔ (rest.now ≡ lent (length rest.now)) }
 {
-    if a.len() != b.len() {
-        return false;
-    }
-    let mut i: usize = 0;
-    while i < a.len() {
-        if a[i] != b[i] {
-            return false;
-        }
-        i = i + 1;
-    }
-    true
-}
-
-fn is_filled(s: &[u8]) -> bool
-    ensures { result ≡ same_bytes s.now (lent (length s.now)) }
-{
-    let mut i: usize = 0;
-    while i < s.len() {
-        if s[i] != FILL {
-            return false;
-        }
-        i = i + 1;
-    }
-    true
+    rest.iter().all(|&byte| byte == FILL)
 }
