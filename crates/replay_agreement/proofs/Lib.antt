@@ -1,4 +1,3 @@
 -- Laws of comparing a stored call with the walks.
-mod Replayed
 pub mod Meaning
-mod Blocks
+pub mod Blocks

@@ -2,15 +2,15 @@
 // are compared with what is stored.
 #![tactic(auto)]
 
-ghost use Rattle.std.specs.Prelude.{◌≡◌, ◌+◌, ◌≤◌, length};
+ghost use Rattle.std.specs.Prelude.{◌≡◌, ◌≤◌, length};
 ghost use Rattle.format.specs.Walks.{answer_of, strip_of};
 ghost use Rattle.walk_answer.specs.Answers.{answered};
-ghost use Rattle.replay_call.specs.Stored.{call_size, room_at};
+ghost use Rattle.replay_call.specs.Stored.{room_at};
 ghost use Rattle.replay_expected.specs.Expected.{lent};
 ghost use Rattle.replay_agreement.specs.Agree.{agrees_at, call_of, left_at, outcome_at};
 ghost use Rattle.replay_agreement.specs.Blocks.{stored};
 
-use replay_call::CALL;
+use replay_call::{CALL, Call};
 use replay_expected::{FILL, is_answer, is_buffer};
 use trailer::{Block, push_auth_trailer, push_lls};
 use util::{read_be_u32, read_be_u64};
@@ -22,45 +22,27 @@ const LLS: u8 = 3;
 
 const AUTH_TRAILER: u8 = 4;
 
-// Whether the call that stands at a place agrees with the definitions. The strip's buffer has at least the call's room.
-pub fn agrees(file: &[u8], pos: usize, strip: &mut [u8]) -> bool
-    requires pos_in_bounds { pos + call_size file.now pos ≤ length file.now }
-    requires pos_in_bounds_2 { room_at file.now pos ≤ length strip.old }
-    ensures value { result ≡ agrees_at file.now pos }
-    ensures strip_after { strip.new ≡ left_at file.now pos strip.old }
+// Whether a call agrees with the definitions. The strip's buffer has at least the call's room.
+#[tactic(auto, unfolding(crate::specs::Agree::agrees_at, crate::specs::Agree::left_at, crate::specs::Agree::outcome_at))]
+pub fn agrees(call: &Call<'_>, strip: &mut [u8]) -> bool
+    requires { room_at call.now.file.now call.now.at ≤ length strip.old }
+    ensures value { result ≡ agrees_at call.now.file.now call.now.at }
+    ensures strip_after { strip.new ≡ left_at call.now.file.now call.now.at strip.old }
 {
-    let room = read_be_u32(file, pos + 14) as usize;
-    agrees_in(file, pos, &mut strip[..room])
-}
-
-// The same, where the strip's buffer has exactly the call's room.
-fn agrees_in(file: &[u8], pos: usize, strip: &mut [u8]) -> bool
-    requires pos_in_bounds { pos + call_size file.now pos ≤ length file.now }
-    requires pos_value { room_at file.now pos ≡ length strip.old }
-    ensures value { result ≡ agrees_at file.now pos }
-    ensures strip_after { strip.new ≡ strip_of (outcome_at file.now pos) (lent (room_at file.now pos)) }
-{
-    let size = read_be_u32(file, pos + 18) as usize;
-    let start = pos + CALL;
-    let q = start + size;
-    let count = read_be_u32(file, pos + 2);
-    let offset = read_be_u64(file, pos + 6);
-    fill(strip);
-    let answer = call_by_number(
-        file[pos],
-        file[pos + 1],
-        &file[start..q],
-        count,
-        offset,
-        strip,
-    );
-    if !is_answer(answer, file, q) {
-        return false;
-    }
-    is_buffer(strip, file, q)
+    let Call { file, at } = *call;
+    let count = read_be_u32(file, at + 2);
+    let offset = read_be_u64(file, at + 6);
+    let room = read_be_u32(file, at + 14) as usize;
+    let start = at + CALL;
+    let q = start + read_be_u32(file, at + 18) as usize;
+    let lent = &mut strip[..room];
+    lent.fill(FILL);
+    let answer = call_by_number(file[at], file[at + 1], &file[start..q], count, offset, lent);
+    is_answer(answer, file, q) && is_buffer(lent, file, q)
 }
 
 // The walk that a number names, or the reading of a block.
+#[tactic(auto, using(crate::proofs::Blocks::as_answer, crate::proofs::Blocks::as_strip), unfolding(crate::specs::Agree::call_of))]
 fn call_by_number(
     version: u8,
     number: u8,
@@ -102,15 +84,5 @@ fn stored_answer(answer: Block) -> Answer
             records: 0,
             tail: 0,
         },
-    }
-}
-
-fn fill(strip: &mut [u8])
-    ensures { strip.new ≡ lent (length strip.old) }
-{
-    let mut i: usize = 0;
-    while i < strip.len() {
-        strip[i] = FILL;
-        i = i + 1;
     }
 }

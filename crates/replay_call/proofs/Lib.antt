@@ -1,2 +1,3 @@
 -- Laws of the stored calls' definitions.
 pub mod Rule
+pub mod Turns

@@ -8,6 +8,7 @@ use mathlib.Core.Option.{Option, none, some}
 use lib.ListN.{length, get_or}
 use lib.Dec.{leb}
 use borrow.Author.Tests.{le-leb, lt-leb, leb-true}
+use Rattle.std.proofs.lemmas.Grind.{common_steps}
 use Rattle.format.specs.Cut.{standing, fitting}
 use Rattle.format.proofs.Rules.{inside}
 use Rattle.replay_call.specs.Stored.{walk_at, room_at, answer_at, call_size, is_call, call_rule}
@@ -58,3 +59,5 @@ module _ (most : ℕ) (b : List ℕ) (p : ℕ) where
       go : (t : Bool) → is_call most b p ≡ t → cond t (some (call_size b p)) none ≡ some n → p + n ≤ length b → Stands most b p n
       go true h q w = let z : n ≡ call_size b p = cc in record { within = omega arith; long = z; roomy = roomy h }
       go false h q w = let z : ◌≡◌ {A = ℕ} 0 1 = cc in absurd (omega arith)
+
+pub ruleset laws = (common_steps, beyond, no_call, stands)

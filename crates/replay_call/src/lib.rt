@@ -1,12 +1,12 @@
 // A stored call (samples/README.md has the format): whether one stands whole at a place of a file, how long it is, and of
-// which walk or block and number it is.
+// which walk or block and number it is; and all calls of a file, one after another.
 #![tactic(auto)]
 
-ghost use Rattle.std.specs.Prelude.{◌≡◌, ◌+◌, ◌≤◌, length};
+ghost use Rattle.std.specs.Prelude.{◌≡◌, ◌+◌, ◌≤◌, length, MatchOption};
+ghost use Rattle.std.proofs.Math.Option.{none, some};
 ghost use Rattle.replay_call.specs.Stored.{call_rule, call_size, is_call, is_of, kept_at, size_at};
-ghost use Rattle.util.specs.Answers.{length_of};
 
-use util::{Length, read_be_u32};
+use util::read_be_u32;
 
 // The bytes before the data, and those of the answer after it.
 pub const CALL: usize = 22;
@@ -18,26 +18,56 @@ const WALKS: u8 = 4;
 
 const NUMBERS: u8 = 5;
 
-pub fn call_fits(file: &[u8], pos: usize, most: usize) -> Length
-    requires { pos ≤ length file.now }
-    ensures { result ≡ length_of (call_rule most file.now pos) }
-{
-    let left = file.len() - pos;
-    if left < CALL + ANSWER {
-        return Length::Nothing;
+// A call that stands whole at a place of a file.
+#[derive(Clone, Copy)]
+pub struct Call<'a> {
+    pub file: &'a [u8],
+    pub at: usize,
+    pub ghost whole: { at + call_size file.now at ≤ length file.now },
+}
+
+impl<'a> Call<'a> {
+    // The one at a place, if one stands there that lends no more room than `most`.
+    #[tactic(auto, using(crate::proofs::Rule::laws))]
+    pub fn at(file: &'a [u8], at: usize, most: usize) -> Option<Call<'a>>
+        requires { at ≤ length file.now }
+        ensures { MatchOption result (call_rule most file.now at ≡ none)
+            (λ c. (c.file.now ≡ file.now) × (c.at ≡ at) × (call_rule most file.now at ≡ some (call_size file.now at))) }
+    {
+        let left = file.len() - at;
+        if left < CALL + ANSWER {
+            return None;
+        }
+        let size = read_be_u32(file, at + 18) as usize;
+        if left - (CALL + ANSWER) < size {
+            return None;
+        }
+        let kept = kept_at(file, at + CALL + size);
+        if left - (CALL + ANSWER) - size < kept {
+            return None;
+        }
+        if !is_call(file, at, size, most) {
+            return None;
+        }
+        Some(Call { file, at })
     }
-    let size = read_be_u32(file, pos + 18) as usize;
-    if left - (CALL + ANSWER) < size {
-        return Length::Nothing;
+
+    // Whether it is of this walk, and its stored answer has this number.
+    #[tactic(auto, unfolding(crate::specs::Stored::is_of))]
+    pub fn is_of(&self, walk: u8, number: u8) -> bool
+        ensures { result ≡ is_of self.now.file.now walk number self.now.at }
+    {
+        let size = read_be_u32(self.file, self.at + 18) as usize;
+        self.file[self.at + 1] == walk && self.file[self.at + CALL + size] == number
     }
-    let kept = kept_at(file, pos + CALL + size);
-    if left - (CALL + ANSWER) - size < kept {
-        return Length::Nothing;
+
+    // The place after it.
+    pub fn end(&self) -> usize
+        ensures { result ≡ self.now.at + call_size self.now.file.now self.now.at }
+    {
+        let answer = self.at + CALL + read_be_u32(self.file, self.at + 18) as usize;
+        answer + ANSWER + kept_at(self.file, answer)
     }
-    if !is_call(file, pos, size, most) {
-        return Length::Nothing;
-    }
-    Length::Bytes(CALL + ANSWER + size + kept)
 }
 
 // The length of the strip that is stored after the answer at q.
@@ -53,28 +83,49 @@ pub fn kept_at(file: &[u8], q: usize) -> usize
 }
 
 // Whether the numbers of the call at a place, which has `size` bytes of data, can be a call's.
-fn is_call(file: &[u8], pos: usize, size: usize, most: usize) -> bool
-    requires size_in_bounds { pos + 35 + size ≤ length file.now }
-    requires size_value { size ≡ size_at file.now pos }
-    ensures { result ≡ is_call most file.now pos }
+#[tactic(auto, unfolding(crate::specs::Stored::is_call))]
+fn is_call(file: &[u8], at: usize, size: usize, most: usize) -> bool
+    requires size_in_bounds { at + 35 + size ≤ length file.now }
+    requires size_value { size ≡ size_at file.now at }
+    ensures { result ≡ is_call most file.now at }
 {
-    if WALKS < file[pos + 1] {
-        return false;
-    }
-    if NUMBERS < file[pos + CALL + size] {
-        return false;
-    }
-    read_be_u32(file, pos + 14) as usize <= most
+    file[at + 1] <= WALKS
+        && file[at + CALL + size] <= NUMBERS
+        && read_be_u32(file, at + 14) as usize <= most
 }
 
-// Whether the call that stands at a place is of this walk, and its stored answer has this number.
-pub fn is_of(file: &[u8], pos: usize, walk: u8, number: u8) -> bool
-    requires { pos + call_size file.now pos ≤ length file.now }
-    ensures { result ≡ is_of file.now walk number pos }
-{
-    let size = read_be_u32(file, pos + 18) as usize;
-    if file[pos + 1] != walk {
-        return false;
+// The calls of a file, end to end from its first byte, as far as whole calls stand that lend no more room than `most`.
+#[derive(Drop)]
+pub struct Calls<'a> {
+    file: &'a [u8],
+    most: usize,
+    at: usize,
+    ghost within: { at ≤ length file.now },
+}
+
+impl<'a> Calls<'a> {
+    ghost use Rattle.replay_call.specs.Calls.{left_of, places_from};
+
+    pub fn new(file: &'a [u8], most: usize) -> Calls<'a>
+        ensures { left_of result ≡ places_from most file.now 0 }
+    {
+        Calls { file, most, at: 0 }
     }
-    file[pos + CALL + size] == number
+}
+
+impl<'a> Iterator for Calls<'a> {
+    ghost use Rattle.std.specs.Iterator.{YieldsFirstBy, item_count};
+    ghost use Rattle.replay_call.specs.Calls.{left_of, place_of};
+
+    type Item = Call<'a>;
+
+    ghost next_gives = { YieldsFirstBy place_of left_of };
+
+    ghost remaining = { item_count left_of };
+
+    fn next(&mut self) -> Option<Call<'a>> {
+        let call = Call::at(self.file, self.at, self.most)?;
+        self.at = call.end();
+        Some(call)
+    }
 }

@@ -1,10 +1,10 @@
 -- How a buffer is compared with what is stored of it.
-use Prim.Native.Nat.{ℕ, ◌+◌, ◌-◌, ◌<◌}
+use Prim.Native.Nat.{ℕ, ◌+◌, ◌-◌}
 use native.Mathlib.Omega.{arith}
 use mathlib.Core.Path.{◌≡◌}
 use mathlib.Core.Bool.{Bool, true, false}
 use mathlib.Core.List.{List, ◌++◌}
-use lib.ListN.{length, get_or, take, drop, length-replicate, get_or-replicate}
+use lib.ListN.{length, take, drop}
 use lib.Dec.{eqb}
 use lib.Pointwise.{pointwise}
 use denote.Bor.{Bor}
@@ -15,12 +15,6 @@ use Rattle.std.proofs.Common.{None, Some}
 use Rattle.format.specs.Bytes.{same_bytes}
 use Rattle.format.proofs.SameBytes.{same_parts, pointwise_same, same_told}
 use Rattle.replay_expected.specs.Expected.{lent}
-
-pub lent_length : (room : ℕ) → length (lent room) ≡ room
-lent_length room = length-replicate {A = ℕ} room 165
-
-pub lent_at : (room i : ℕ) → i < room → get_or (lent room) i 0 ≡ 165
-lent_at room i h = get_or-replicate {A = ℕ} room i 165 0 h
 
 -- What is left of a buffer behind the bytes of a prefix decides, if they stand at its front.
 pub prefix_then : (s x : List ℕ) {r : Bool} (o : Option (Bor (List ℕ)))

@@ -1,122 +1,167 @@
--- What the loops over the calls of a file know of the calls that they have visited: how many pass a test, that none
--- differs yet, and what replaying them left in the buffer.
-use Prim.Native.Nat.{ℕ, suc, ◌+◌, ◌-◌, ◌≤◌, ◌<◌}
+-- What a loop over the calls of a file knows: of the call at which it is, and of those that are left.
+use Prim.Native.Nat.{ℕ, zero, suc, ◌+◌, ◌≤◌, ◌<◌}
 use native.Mathlib.Omega.{arith}
-use mathlib.Core.Path.{◌≡◌, refl}
+use native.Mathlib.Numerals.{add-one}
+use mathlib.Core.Path.{◌≡◌, refl, sym, ap, ◌∙◌}
 use mathlib.Core.Bool.{Bool, true, false, cond}
-use mathlib.Core.List.{List, [], ◌∷◌, ◌++◌}
+use mathlib.Core.List.{List, [], ◌∷◌, map}
 use mathlib.Core.Option.{some}
-use lib.ListN.{length, length-append}
-use lib.Seq.{take_all, take-append-add}
-use Rattle.format.specs.Cut.{Span, cut, after}
-use Rattle.format.proofs.Unique.{span}
-use Rattle.format.proofs.Loop.{Going, going_begin, going_turn, going_finish}
-use Rattle.replay_call.specs.Stored.{call_rule}
+use lib.ListN.{length, get_or, take, drop, drop_of_length-le}
+use lib.Seq.{drop-cons}
+use Rattle.std.specs.declared.option.Option.{Option as Item}
+use Rattle.std.proofs.Common.{None, Some}
+use Rattle.std.specs.List.{filter}
+use Rattle.std.specs.Iterator.{Yields, YieldsFirstBy}
+use Rattle.std.proofs.lemmas.List.{get_or-map, length-map}
+use Rattle.std.proofs.lemmas.Iterator.{YieldsList}
+use Rattle.std.proofs.lemmas.Iterator.Consumers.{YieldsList-from_first, YieldsList-turn, YieldsList-end}
+use Rattle.format.specs.Cut.{Span, Rule, Stands, after}
+use Rattle.format.specs.Cut.Stands.{next}
+use Rattle.format.proofs.Unique.{span, is_cut}
+use Rattle.replay_call.specs.Stored.{call_rule, call_size, room_at}
+use Rattle.replay_call.specs.Calls.{left_of, place_of, places_from}
+use Rattle.replay_call.specs.declared.Call.{Call}
+use Rattle.replay_call.specs.declared.Calls.{Calls}
+use Rattle.replay_agreement.specs.Agree.{agrees_at, left_at}
 use Rattle.replay_call.proofs.Rule.{standing_call}
-use Rattle.replay_agreement.specs.Agree.{left_at}
 use Rattle.replay_tally.specs.Calls.{calls, count_of, first_of, differs, replayed, up_to_first}
 
--- A loop over the calls of a file stands at pos, within the file.
-pub record Calling (most : ℕ) (b : List ℕ) (holds : List Span → Type 0) (pos left : ℕ) : Type 0 where
-  pub going : Going (call_rule most) b (length b) 0 holds pos left
-  pub within : pos ≤ length b
+-- The entry of index n of a cut stands where it says, and ends where the first n + 1 end.
+standing_at : (r : Rule) (b : List ℕ) (p n : ℕ) (ss : List Span) → Stands r b p ss → n < length ss
+    → let s = get_or ss n (span 0 0) in (r b s.at ≡ some s.len) × (after p (take (suc n) ss) ≡ s.at + s.len)
+unfolding after
+standing_at r b p n [] t h = absurd (omega arith)
+standing_at r b p zero (s ∷ ss) (next e f t) h = (rw e f, rw e refl)
+standing_at r b p (suc n) (s ∷ ss) (next e f t) h = standing_at r b (p + s.len) n ss t (omega arith)
 
-module _ {most : ℕ} {b : List ℕ} {holds : List Span → Type 0} where
-  pub calling_begin : holds [] → Calling most b holds 0 (length b)
-  calling_begin h = record { going = going_begin (call_rule most) b (length b) 0 h; within = omega arith }
+pub calls_most : (most : ℕ) (b : List ℕ) → length (calls most b) ≤ length b
+calls_most most b = (is_cut (call_rule most) b (length b) 0).most
 
-  pub calling_turn : {holds' : List Span → Type 0} {pos left n : ℕ} (g : Calling most b holds pos left) → 0 < left → call_rule most b pos ≡ some n
-      → (holds g.going.visited → holds' (g.going.visited ++ (span pos n ∷ []))) → Calling most b holds' (pos + n) (left - 1)
-  calling_turn {pos = pos} {n = n} g h e t =
-      let s = standing_call most b pos n e in
-      record { going = going_turn (call_rule most) b (length b) 0 n g.going h e t; within = omega (arith, s.within, s.long) }
+-- The loop is at the call of index n, which stands at a place of a file.
+pub record IsAt (most : ℕ) (b : List ℕ) (n : ℕ) (file : List ℕ) (at : ℕ) : Type 0 where
+  pub same_file : file ≡ b
+  pub len : ℕ
+  pub left : drop n (calls most b) ≡ span at len ∷ drop (n + 1) (calls most b)
+  pub end : after 0 (take (n + 1) (calls most b)) ≡ at + call_size b at
+  pub roomy : room_at file at ≤ most
+  pub below : n < length b
 
-  pub calling_end : {pos left : ℕ} → Calling most b holds pos left → cut (call_rule most) b left pos ≡ []
-      → holds (calls most b) × (pos ≡ after 0 (calls most b)) × (length (calls most b) ≡ length b - left)
-  calling_end g e = going_finish (call_rule most) b (length b) 0 g.going e
+is_at : (most : ℕ) (b : List ℕ) (n : ℕ) (c : Call) → n < length (places_from most b 0) → place_of c ≡ get_or (places_from most b 0) n (place_of c)
+    → IsAt most b n c.file.now c.at
+is_at most b n c h e =
+    let ss = calls most b in
+    let s = get_or ss n (span 0 0) in
+    let cut = is_cut (call_rule most) b (length b) 0 in
+    let l : n < length ss = rw length-map at h in
+    let here : place_of c ≡ (b, s.at) = e ∙ get_or-map (λ (x : Span). (b, x.at)) ss n (span 0 0) (place_of c) l in
+    let (stands, end) = standing_at (call_rule most) b 0 n ss cut.stands l in
+    let g = standing_call most b s.at s.len stands in
+    let at : s.at ≡ c.at = sym (ap (λ (x : List ℕ × ℕ). x.1) here) in
+    let same : c.file.now ≡ b = ap (λ (x : List ℕ × ℕ). x.0) here in
+    record {
+      same_file = same;
+      len = s.len;
+      left = drop-cons ss n (span 0 0) l ∙ rw (← at, add-one) refl;
+      end = rw (add-one, ← at) (end ∙ rw g.long refl);
+      roomy = rw same (rw at at g.roomy);
+      below = omega (arith, cut.most);
+    }
 
--- One call more to count, or not.
-module _ (f : ℕ → Bool) where
-  count_last : (ss : List Span) (s : Span) → count_of f (ss ++ (s ∷ [])) ≡ count_of f ss + cond (f s.at) 1 0
-  unfolding count_of
-  count_last [] s = go (f s.at)
-    where
-      go : (t : Bool) → cond t 1 0 ≡ 0 + cond t 1 0
-      go t = omega arith
-  count_last (x ∷ ss) s = go (f x.at) (count_of f ss) (cond (f s.at) 1 0) (count_last ss s)
-    where
-      go : (t : Bool) {m : ℕ} (n k : ℕ) → m ≡ n + k → cond t (suc m) m ≡ cond t (suc n) n + k
-      go true n k h = omega arith
-      go false n k h = h
+-- A `for` over the calls of a file, whose iterator is i.
+module _ (most : ℕ) (b : List ℕ) {i s : Calls} (gives : i ≡ s) (begun : left_of s ≡ places_from most b 0) where
+  all : YieldsList (YieldsFirstBy place_of left_of) place_of i (places_from most b 0)
+  all = YieldsList-from_first place_of left_of (places_from most b 0) (rw gives begun)
 
-  pub count_yes : (ss : List Span) (s : Span) {count count' : ℕ} → count ≡ count_of f ss → f s.at ≡ true → count' ≡ count + 1 → count' ≡ count_of f (ss ++ (s ∷ []))
-  count_yes ss s h t q = rw (count_last ss s, t) (omega arith)
+  pub turn : (xs : List Call) (t u : Calls) {r : Item Call} {c : Call} → Yields (YieldsFirstBy place_of left_of) i xs t → r ≡ Some c → YieldsFirstBy place_of left_of t r u
+      → IsAt most b (length xs) c.file.now c.at
+  turn xs t u {r} {c} y e g = let w = YieldsList-turn all xs t y r u c e g in is_at most b (length xs) c w.0 w.1
 
-  pub count_no : (ss : List Span) (s : Span) {count count' : ℕ} → count ≡ count_of f ss → f s.at ≡ false → count' ≡ count → count' ≡ count_of f (ss ++ (s ∷ []))
-  count_no ss s h t q = rw (count_last ss s, t) (omega arith)
+  pub end : (xs : List Call) (t u : Calls) {r : Item Call} → Yields (YieldsFirstBy place_of left_of) i xs t → r ≡ None → YieldsFirstBy place_of left_of t r u
+      → length xs ≡ length (calls most b)
+  end xs t u {r} y e g = rw length-map at (YieldsList-end all xs t y r u e g).1
 
-  pub count_most : (ss : List Span) → count_of f ss ≤ length ss
-  unfolding count_of
-  count_most [] = omega arith
-  count_most (x ∷ ss) = go (f x.at) (count_most ss)
-    where
-      go : (t : Bool) {m n : ℕ} → m ≤ n → cond t (suc m) m ≤ suc n
-      go true h = omega arith
-      go false h = omega arith
+pub count_most : (f : ℕ → Bool) (ss : List Span) → count_of f ss ≤ length ss
+unfolding count_of
+count_most f [] = omega arith
+count_most f (x ∷ ss) = go (f x.at) (count_most f ss)
+  where
+    go : (t : Bool) {m n : ℕ} → m ≤ n → cond t (suc m) m ≤ suc n
+    go true h = omega arith
+    go false h = omega arith
 
-  -- the first that passes the test stands after those that do not
-  first_after : (ss ts : List Span) → first_of f ss ≡ length ss → first_of f (ss ++ ts) ≡ length ss + first_of f ts
-  unfolding first_of
-  first_after [] ts h = omega arith
-  first_after (x ∷ ss) ts h = go (f x.at) refl (first_after ss ts)
-    where
-      go : (t : Bool) → f x.at ≡ t → (first_of f ss ≡ length ss → first_of f (ss ++ ts) ≡ length ss + first_of f ts) → first_of f (x ∷ (ss ++ ts)) ≡ suc (length ss) + first_of f ts
-      go true e ih = let z = rw e at h in absurd (omega arith)
-      go false e ih = let z = rw e at h in rw e (let i = ih (omega arith) in omega arith)
+-- The calls of index n on are left, and with those that are counted, and in the buffer as it is, they are all.
+pub record Counting (most : ℕ) (b before : List ℕ) (n different : ℕ) (strip : List ℕ) : Type 0 where
+  pub count : different + count_of (differs b) (drop n (calls most b)) ≡ count_of (differs b) (calls most b)
+  pub replay : replayed b (drop n (calls most b)) strip ≡ replayed b (calls most b) before
 
--- One call more is replayed.
-replayed_last : (b : List ℕ) (ss : List Span) (s : Span) (before : List ℕ) → replayed b (ss ++ (s ∷ [])) before ≡ left_at b s.at (replayed b ss before)
-unfolding replayed
-replayed_last b [] s before = refl
-replayed_last b (x ∷ ss) s before = replayed_last b ss s (left_at b x.at before)
+pub counting_begin : (most : ℕ) (b before : List ℕ) → Counting most b before 0 0 before
+counting_begin most b before = record { count = omega arith; replay = refl }
 
-pub replayed_more : (b : List ℕ) (ss : List Span) (s : Span) (before : List ℕ) {strip t : List ℕ} → strip ≡ replayed b ss before → t ≡ left_at b s.at strip
-    → t ≡ replayed b (ss ++ (s ∷ [])) before
-replayed_more b ss s before h q = rw (replayed_last b ss s before, ← h) q
-
--- No call of ss differs, and strip is what replaying them left.
-pub record Agreed (b before strip : List ℕ) (ss : List Span) : Type 0 where
-  pub none : first_of (differs b) ss ≡ length ss
-  pub left : strip ≡ replayed b ss before
-
--- The first call that differs is the one after as many, and strip is what the calls up to it left.
-pub record Stopped (b before strip : List ℕ) (ss : List Span) (n : ℕ) : Type 0 where
-  pub first : first_of (differs b) ss ≡ n
-  pub left : strip ≡ replayed b (up_to_first b ss) before
-
-module _ {b before strip : List ℕ} {ss : List Span} (g : Agreed b before strip ss) where
-  -- the next agrees
-  pub agreed_more : (s : Span) {t : List ℕ} → differs b s.at ≡ false → t ≡ left_at b s.at strip → Agreed b before t (ss ++ (s ∷ []))
-  unfolding first_of
-  agreed_more s d q = record {
-    none = rw (first_after (differs b) ss (s ∷ []) g.none, d, length-append ss (s ∷ [])) refl;
-    left = replayed_more b ss s before g.left q;
-  }
-
-  -- there is no next
-  pub agreed_all : Stopped b before strip ss (length ss)
-  agreed_all = record {
-    first = g.none;
-    left = rw (g.none, take_all (suc (length ss)) ss (omega arith)) g.left;
-  }
-
-  -- the next differs
-  pub agreed_until : (s : Span) (ts : List Span) {t : List ℕ} → differs b s.at ≡ true → t ≡ left_at b s.at strip → Stopped b before t (ss ++ (s ∷ ts)) (length ss)
-  unfolding first_of
-  agreed_until s ts d q =
-      let f : first_of (differs b) (ss ++ (s ∷ ts)) ≡ length ss = rw (first_after (differs b) ss (s ∷ ts) g.none, d) (omega arith) in
-      let n : suc (length ss) ≡ length ss + 1 = omega arith in
-      record {
-        first = f;
-        left = rw (f, n, take-append-add ss (s ∷ ts) 1) (replayed_more b ss s before g.left q);
+module _ {most n at different : ℕ} {b before file strip strip' : List ℕ} {agrees : Bool} (g : Counting most b before n different strip) (t : IsAt most b n file at)
+    (told : agrees ≡ agrees_at file at) (after : strip' ≡ left_at file at strip) where
+  pub counting_no : agrees ≡ true → Counting most b before (n + 1) different strip'
+  unfolding count_of differs replayed
+  counting_no h =
+      let e : agrees_at b at ≡ true = rw t.same_file at (sym told ∙ h) in record {
+        count = rw (t.left, e) at g.count;
+        replay = rw (after, t.same_file) (rw t.left at g.replay);
       }
+
+  pub counting_yes : agrees ≡ false → Counting most b before (n + 1) (different + 1) strip'
+  unfolding count_of differs replayed
+  counting_yes h =
+      let e : agrees_at b at ≡ false = rw t.same_file at (sym told ∙ h) in record {
+        count = omega (arith, rw (t.left, e) at g.count);
+        replay = rw (after, t.same_file) (rw t.left at g.replay);
+      }
+
+pub counting_end : {most n different : ℕ} {b before strip : List ℕ} → Counting most b before n different strip → n ≡ length (calls most b)
+    → (different ≡ count_of (differs b) (calls most b)) × (strip ≡ replayed b (calls most b) before)
+unfolding count_of replayed
+counting_end {most} {b = b} g e =
+    let none : drop (length (calls most b)) (calls most b) ≡ [] = drop_of_length-le (calls most b) (omega arith) in
+    (omega (arith, rw (e, none) at g.count), rw (e, none) at g.replay)
+
+-- The first n calls agree, and with them those that are left are all, to the first that differs.
+pub record Agreeing (most : ℕ) (b before : List ℕ) (n agreed : ℕ) (strip : List ℕ) : Type 0 where
+  pub index : agreed ≡ n
+  pub first : agreed + first_of (differs b) (drop n (calls most b)) ≡ first_of (differs b) (calls most b)
+  pub replay : replayed b (up_to_first b (drop n (calls most b))) strip ≡ replayed b (up_to_first b (calls most b)) before
+
+pub agreeing_begin : (most : ℕ) (b before : List ℕ) → Agreeing most b before 0 0 before
+agreeing_begin most b before = record { index = refl; first = omega arith; replay = refl }
+
+module _ {most n at agreed : ℕ} {b before file strip strip' : List ℕ} {agrees : Bool} (g : Agreeing most b before n agreed strip) (t : IsAt most b n file at)
+    (told : agrees ≡ agrees_at file at) (after : strip' ≡ left_at file at strip) where
+  pub agreeing_turn : agrees ≡ true → Agreeing most b before (n + 1) (agreed + 1) strip'
+  unfolding first_of differs replayed
+  agreeing_turn h =
+      let e : agrees_at b at ≡ true = rw t.same_file at (sym told ∙ h) in record {
+        index = omega (arith, g.index);
+        first = omega (arith, rw (t.left, e) at g.first);
+        replay = rw (after, t.same_file) (rw (t.left, e) at g.replay);
+      }
+
+  pub agreeing_differs : agrees ≡ false → (agreed ≡ first_of (differs b) (calls most b)) × (strip' ≡ replayed b (up_to_first b (calls most b)) before)
+  unfolding first_of differs replayed
+  agreeing_differs h =
+      let e : agrees_at b at ≡ false = rw t.same_file at (sym told ∙ h) in
+      (omega (arith, rw (t.left, e) at g.first), rw (after, t.same_file) (rw (t.left, e) at g.replay))
+
+pub agreeing_end : {most n agreed : ℕ} {b before strip : List ℕ} → Agreeing most b before n agreed strip → n ≡ length (calls most b)
+    → (agreed ≡ first_of (differs b) (calls most b)) × (strip ≡ replayed b (up_to_first b (calls most b)) before)
+unfolding first_of replayed
+agreeing_end {most} {b = b} g e =
+    let none : drop (length (calls most b)) (calls most b) ≡ [] = drop_of_length-le (calls most b) (omega arith) in
+    (omega (arith, rw (e, none) at g.first), rw (e, none) at g.replay)
+
+-- The calls that pass a test of their place are as many as those that a filter by it keeps.
+pub length_kept : (f : ℕ → Bool) (test : List ℕ × ℕ → Bool) (b : List ℕ) (ss : List Span) → ((p : ℕ) → test (b, p) ≡ f p)
+    → length (filter test (map (λ x. (b, x.at)) ss)) ≡ count_of f ss
+unfolding count_of
+length_kept f test b [] e = refl
+length_kept f test b (s ∷ ss) e = rw (e s.at) (go (f s.at) _ (length_kept f test b ss e))
+  where
+    go : (t : Bool) (xs : List (List ℕ × ℕ)) {n : ℕ} → length xs ≡ n → length (cond t ((b, s.at) ∷ xs) xs) ≡ cond t (suc n) n
+    go true xs h = ap suc h
+    go false xs h = h

@@ -7,8 +7,7 @@ ghost use Rattle.replay_call.specs.Stored.{is_of};
 ghost use Rattle.replay_tally.specs.Calls.{all_replayed, calls, count_of, differs, first_of, replayed_to_first};
 
 use replay_agreement::agrees;
-use replay_call::{call_fits, is_of};
-use util::Length;
+use replay_call::Calls;
 
 // How many calls a file has, and where the last of them ends: at the file's end, unless the file is damaged.
 #[derive(Clone, Copy)]
@@ -21,39 +20,21 @@ pub fn whole_calls(file: &[u8], most: usize) -> Whole
     ensures calls_value { result.calls ≡ length (calls most file.now) }
     ensures end_value { result.end ≡ after 0 (calls most file.now) }
 {
-    let mut pos: usize = 0;
-    let mut left = file.len();
-    while 0 < left {
-        let Length::Bytes(n) = call_fits(file, pos, most) else {
-            break;
-        };
-        pos = pos + n;
-        left = left - 1;
+    let mut whole = Whole { calls: 0, end: 0 };
+    for call in Calls::new(file, most) {
+        whole.calls += 1;
+        whole.end = call.end();
     }
-    Whole {
-        calls: file.len() - left,
-        end: pos,
-    }
+    whole
 }
 
 // How many calls are of this walk or block and have this number as their stored answer's.
 pub fn count_calls(file: &[u8], most: usize, walk: u8, number: u8) -> usize
     ensures { result ≡ count_of (is_of file.now walk number) (calls most file.now) }
 {
-    let mut count: usize = 0;
-    let mut pos: usize = 0;
-    let mut left = file.len();
-    while 0 < left {
-        let Length::Bytes(n) = call_fits(file, pos, most) else {
-            break;
-        };
-        if is_of(file, pos, walk, number) {
-            count = count + 1;
-        }
-        pos = pos + n;
-        left = left - 1;
-    }
-    count
+    Calls::new(file, most)
+        .filter(|call| call.is_of(walk, number))
+        .count()
 }
 
 // How many calls do not agree with the definitions.
@@ -61,19 +42,11 @@ pub fn count_different(file: &[u8], strip: &mut [u8]) -> usize
     ensures value { result ≡ count_of (differs file.now) (calls (length strip.old) file.now) }
     ensures strip_after { strip.new ≡ all_replayed file.now strip.old }
 {
-    let most = strip.len();
-    let mut different: usize = 0;
-    let mut pos: usize = 0;
-    let mut left = file.len();
-    while 0 < left {
-        let Length::Bytes(n) = call_fits(file, pos, most) else {
-            break;
-        };
-        if !agrees(file, pos, strip) {
-            different = different + 1;
+    let mut different = 0;
+    for call in Calls::new(file, strip.len()) {
+        if !agrees(&call, strip) {
+            different += 1;
         }
-        pos = pos + n;
-        left = left - 1;
     }
     different
 }
@@ -83,18 +56,12 @@ pub fn first_different(file: &[u8], strip: &mut [u8]) -> usize
     ensures value { result ≡ first_of (differs file.now) (calls (length strip.old) file.now) }
     ensures strip_after { strip.new ≡ replayed_to_first file.now strip.old }
 {
-    let most = strip.len();
-    let mut pos: usize = 0;
-    let mut left = file.len();
-    while 0 < left {
-        let Length::Bytes(n) = call_fits(file, pos, most) else {
-            break;
-        };
-        if !agrees(file, pos, strip) {
-            break;
+    let mut agreed = 0;
+    for call in Calls::new(file, strip.len()) {
+        if !agrees(&call, strip) {
+            return agreed;
         }
-        pos = pos + n;
-        left = left - 1;
+        agreed += 1;
     }
-    file.len() - left
+    agreed
 }

@@ -1,9 +1,7 @@
-use Prim.{Unit}
-use Rattle.replay_tally.proofs.Turns.{Calling}
+use Rattle.std.proofs.Common.{◌≡◌, length, take}
+use Rattle.format.specs.Cut.{after}
+use Rattle.replay_tally.specs.Calls.{calls}
 use Rattle.replay_tally.proofs.whole_calls.Given as goal
 
-abbrev pub invariant-loop-left : goal.invariant-loop-left
-invariant-loop-left l = Calling l.most l.file (λ ss. Unit) l.pos l.left
-
-abbrev pub decreases-loop-left : goal.decreases-loop-left
-decreases-loop-left l = l.left
+abbrev pub invariant-loop-call : goal.invariant-loop-call
+invariant-loop-call l = (l.whole.calls ≡ length l.yielded) × (l.whole.end ≡ after 0 (take (length l.yielded) (calls l.most l.file)))
