@@ -60,4 +60,5 @@ module _ (most : ℕ) (b : List ℕ) (p : ℕ) where
       go true h q w = let z : n ≡ call_size b p = cc in record { within = omega arith; long = z; roomy = roomy h }
       go false h q w = let z : ◌≡◌ {A = ℕ} 0 1 = cc in absurd (omega arith)
 
+-- What the search goes by where it tells whether a call stands.
 pub ruleset laws = (common_steps, beyond, no_call, stands)

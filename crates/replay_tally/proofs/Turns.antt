@@ -1,6 +1,8 @@
--- What a loop over the calls of a file knows: of the call at which it is, and of those that are left.
+-- What a loop over the calls of a file knows: of the call at which it is, of those that are left, and of what replaying
+-- them leaves.
 use Prim.Native.Nat.{ℕ, zero, suc, ◌+◌, ◌≤◌, ◌<◌}
 use native.Mathlib.Omega.{arith}
+use native.Mathlib.Nat.{suc-add}
 use native.Mathlib.Numerals.{add-one}
 use mathlib.Core.Path.{◌≡◌, refl, sym, ap, ◌∙◌}
 use mathlib.Core.Bool.{Bool, true, false, cond}
@@ -26,19 +28,24 @@ use Rattle.replay_agreement.specs.Agree.{agrees_at, left_at}
 use Rattle.replay_call.proofs.Rule.{standing_call}
 use Rattle.replay_tally.specs.Calls.{calls, count_of, first_of, differs, replayed, up_to_first}
 
--- The entry of index n of a cut stands where it says, and ends where the first n + 1 end.
-standing_at : (r : Rule) (b : List ℕ) (p n : ℕ) (ss : List Span) → Stands r b p ss → n < length ss
-    → let s = get_or ss n (span 0 0) in (r b s.at ≡ some s.len) × (after p (take (suc n) ss) ≡ s.at + s.len)
+-- The entry s of index n of a cut stands where it says, and ends where the first n + 1 end.
+record Standing (r : Rule) (b : List ℕ) (p n : ℕ) (ss : List Span) (s : Span) : Type 0 where
+  stands : r b s.at ≡ some s.len
+  end : after p (take (n + 1) ss) ≡ s.at + s.len
+
+standing_at : (r : Rule) (b : List ℕ) (p n : ℕ) (ss : List Span) → Stands r b p ss → n < length ss → Standing r b p n ss (get_or ss n (span 0 0))
 unfolding after
 standing_at r b p n [] t h = absurd (omega arith)
-standing_at r b p zero (s ∷ ss) (next e f t) h = (rw e f, rw e refl)
-standing_at r b p (suc n) (s ∷ ss) (next e f t) h = standing_at r b (p + s.len) n ss t (omega arith)
+standing_at r b p zero (s ∷ ss) (next e f t) h = record { stands = rw e f; end = rw e refl }
+standing_at r b p (suc n) (s ∷ ss) (next e f t) h =
+    let i = standing_at r b (p + s.len) n ss t (omega arith) in
+    record { stands = i.stands; end = rw suc-add i.end }
 
 pub calls_most : (most : ℕ) (b : List ℕ) → length (calls most b) ≤ length b
 calls_most most b = (is_cut (call_rule most) b (length b) 0).most
 
--- The loop is at the call of index n, which stands at a place of a file.
-pub record IsAt (most : ℕ) (b : List ℕ) (n : ℕ) (file : List ℕ) (at : ℕ) : Type 0 where
+-- A loop over the calls of a file is at the one of index n, which stands at a place of a file.
+pub record Calling (most : ℕ) (b : List ℕ) (n : ℕ) (file : List ℕ) (at : ℕ) : Type 0 where
   pub same_file : file ≡ b
   pub len : ℕ
   pub left : drop n (calls most b) ≡ span at len ∷ drop (n + 1) (calls most b)
@@ -46,39 +53,41 @@ pub record IsAt (most : ℕ) (b : List ℕ) (n : ℕ) (file : List ℕ) (at : �
   pub roomy : room_at file at ≤ most
   pub below : n < length b
 
-is_at : (most : ℕ) (b : List ℕ) (n : ℕ) (c : Call) → n < length (places_from most b 0) → place_of c ≡ get_or (places_from most b 0) n (place_of c)
-    → IsAt most b n c.file.now c.at
-is_at most b n c h e =
-    let ss = calls most b in
-    let s = get_or ss n (span 0 0) in
-    let cut = is_cut (call_rule most) b (length b) 0 in
-    let l : n < length ss = rw length-map at h in
-    let here : place_of c ≡ (b, s.at) = e ∙ get_or-map (λ (x : Span). (b, x.at)) ss n (span 0 0) (place_of c) l in
-    let (stands, end) = standing_at (call_rule most) b 0 n ss cut.stands l in
-    let g = standing_call most b s.at s.len stands in
-    let at : s.at ≡ c.at = sym (ap (λ (x : List ℕ × ℕ). x.1) here) in
-    let same : c.file.now ≡ b = ap (λ (x : List ℕ × ℕ). x.0) here in
-    record {
-      same_file = same;
-      len = s.len;
-      left = drop-cons ss n (span 0 0) l ∙ rw (← at, add-one) refl;
-      end = rw (add-one, ← at) (end ∙ rw g.long refl);
-      roomy = rw same (rw at at g.roomy);
-      below = omega (arith, cut.most);
-    }
+module _ (most : ℕ) (b : List ℕ) (n : ℕ) (c : Call) where
+  calling_at : (s : Span) → n < length (calls most b) → drop n (calls most b) ≡ s ∷ drop (n + 1) (calls most b) → Standing (call_rule most) b 0 n (calls most b) s
+      → place_of c ≡ (b, s.at) → Calling most b n c.file.now c.at
+  calling_at s h d i e =
+      let same : c.file.now ≡ b = ap (λ (x : List ℕ × ℕ). x.0) e in
+      let at : c.at ≡ s.at = ap (λ (x : List ℕ × ℕ). x.1) e in
+      let g = standing_call most b s.at s.len i.stands in
+      record {
+        same_file = same;
+        len = s.len;
+        left = rw at d;
+        end = rw at (i.end ∙ rw g.long refl);
+        roomy = rw (same, at) g.roomy;
+        below = omega (arith, calls_most most b);
+      }
 
--- A `for` over the calls of a file, whose iterator is i.
+  calling : n < length (places_from most b 0) → place_of c ≡ get_or (places_from most b 0) n (place_of c) → Calling most b n c.file.now c.at
+  calling h e =
+      let l : n < length (calls most b) = rw length-map at h in
+      calling_at (get_or (calls most b) n (span 0 0)) l (rw add-one (drop-cons (calls most b) n (span 0 0) l))
+      (standing_at (call_rule most) b 0 n (calls most b) (is_cut (call_rule most) b (length b) 0).stands l)
+      (e ∙ get_or-map (λ (x : Span). (b, x.at)) (calls most b) n (span 0 0) (place_of c) l)
+
+-- Its iterator was i, and gave xs so far: in a turn the next call is the one of that index, and at the end it gave all.
 module _ (most : ℕ) (b : List ℕ) {i s : Calls} (gives : i ≡ s) (begun : left_of s ≡ places_from most b 0) where
   all : YieldsList (YieldsFirstBy place_of left_of) place_of i (places_from most b 0)
   all = YieldsList-from_first place_of left_of (places_from most b 0) (rw gives begun)
 
-  pub turn : (xs : List Call) (t u : Calls) {r : Item Call} {c : Call} → Yields (YieldsFirstBy place_of left_of) i xs t → r ≡ Some c → YieldsFirstBy place_of left_of t r u
-      → IsAt most b (length xs) c.file.now c.at
-  turn xs t u {r} {c} y e g = let w = YieldsList-turn all xs t y r u c e g in is_at most b (length xs) c w.0 w.1
+  pub calling_turn : (xs : List Call) (t u : Calls) {r : Item Call} {c : Call} → Yields (YieldsFirstBy place_of left_of) i xs t → r ≡ Some c → YieldsFirstBy place_of left_of t r u
+      → Calling most b (length xs) c.file.now c.at
+  calling_turn xs t u {r} {c} y e g = let w = YieldsList-turn all xs t y r u c e g in calling most b (length xs) c w.0 w.1
 
-  pub end : (xs : List Call) (t u : Calls) {r : Item Call} → Yields (YieldsFirstBy place_of left_of) i xs t → r ≡ None → YieldsFirstBy place_of left_of t r u
+  pub calling_end : (xs : List Call) (t u : Calls) {r : Item Call} → Yields (YieldsFirstBy place_of left_of) i xs t → r ≡ None → YieldsFirstBy place_of left_of t r u
       → length xs ≡ length (calls most b)
-  end xs t u {r} y e g = rw length-map at (YieldsList-end all xs t y r u e g).1
+  calling_end xs t u {r} y e g = rw length-map at (YieldsList-end all xs t y r u e g).1
 
 pub count_most : (f : ℕ → Bool) (ss : List Span) → count_of f ss ≤ length ss
 unfolding count_of
@@ -97,7 +106,7 @@ pub record Counting (most : ℕ) (b before : List ℕ) (n different : ℕ) (stri
 pub counting_begin : (most : ℕ) (b before : List ℕ) → Counting most b before 0 0 before
 counting_begin most b before = record { count = omega arith; replay = refl }
 
-module _ {most n at different : ℕ} {b before file strip strip' : List ℕ} {agrees : Bool} (g : Counting most b before n different strip) (t : IsAt most b n file at)
+module _ {most n at different : ℕ} {b before file strip strip' : List ℕ} {agrees : Bool} (g : Counting most b before n different strip) (t : Calling most b n file at)
     (told : agrees ≡ agrees_at file at) (after : strip' ≡ left_at file at strip) where
   pub counting_no : agrees ≡ true → Counting most b before (n + 1) different strip'
   unfolding count_of differs replayed
@@ -131,7 +140,7 @@ pub record Agreeing (most : ℕ) (b before : List ℕ) (n agreed : ℕ) (strip :
 pub agreeing_begin : (most : ℕ) (b before : List ℕ) → Agreeing most b before 0 0 before
 agreeing_begin most b before = record { index = refl; first = omega arith; replay = refl }
 
-module _ {most n at agreed : ℕ} {b before file strip strip' : List ℕ} {agrees : Bool} (g : Agreeing most b before n agreed strip) (t : IsAt most b n file at)
+module _ {most n at agreed : ℕ} {b before file strip strip' : List ℕ} {agrees : Bool} (g : Agreeing most b before n agreed strip) (t : Calling most b n file at)
     (told : agrees ≡ agrees_at file at) (after : strip' ≡ left_at file at strip) where
   pub agreeing_turn : agrees ≡ true → Agreeing most b before (n + 1) (agreed + 1) strip'
   unfolding first_of differs replayed
