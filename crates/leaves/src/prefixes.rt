@@ -11,10 +11,8 @@ pub fn run(to: &mut impl Write) -> io::Result<()> {
 }
 
 fn every_length(to: &mut impl Write) -> io::Result<()> {
-    let mut length: u64 = 0;
-    while length < 256 {
-        print_octets(to, length as u8)?;
-        length = length + 1;
+    for length in 0..=255 {
+        print_octets(to, length)?;
     }
     Ok(())
 }
