@@ -1,21 +1,15 @@
--- The code's sums and answers for those of the definitions. A refusal has the number that the requirements give it.
-use Rattle.std.specs.Prelude.{◌+◌, ◌*◌}
+-- What the code's answers say, in the definitions' words. A refusal has the number that the requirements give it.
+use Rattle.std.specs.Prelude.{ℕ, ◌/◌, ◌%◌, Bool, true, false, Result, Ok, Err}
 use Rattle.format.specs.Checksum as format
-use Rattle.checksum.specs.declared.Sums.{Sums}
-use Rattle.checksum.specs.declared.Check.{Check}
-use Rattle.checksum.specs.declared.Check.TheVariants as C
-use Rattle.checksum.specs.declared.Making.{Making}
-use Rattle.checksum.specs.declared.Making.TheVariants as M
+use Rattle.refusal.specs.Numbers.{number_of}
+use Rattle.refusal.specs.declared.Refusal.{Refusal}
 
-abbrev pub sums_of : format.Sums → Sums
-sums_of s = record { c0 = s.c0; c1 = s.c1 }
+abbrev pub check_meaning : Result Bool Refusal → format.Check
+check_meaning (Ok true) = format.Check.good
+check_meaning (Ok false) = format.Check.bad
+check_meaning (Err r) = format.Check.refused (number_of r)
 
-abbrev pub check_of : format.Check → Check
-check_of format.Check.good = C.Good
-check_of format.Check.bad = C.Bad
-check_of (format.Check.refused n) = C.Refused n
-
--- The two bytes as a number of 16 bits.
-abbrev pub making_of : format.Making → Making
-making_of (format.Making.made x y) = M.Made (x * 256 + y)
-making_of (format.Making.refused n) = M.Refused n
+-- A number of 16 bits as its two bytes.
+abbrev pub making_meaning : Result ℕ Refusal → format.Making
+making_meaning (Ok n) = format.Making.made (n / 256) (n % 256)
+making_meaning (Err r) = format.Making.refused (number_of r)

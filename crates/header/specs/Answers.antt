@@ -1,27 +1,12 @@
--- The code's header and answers for those of the definitions. A refusal has the number that the requirements give it.
+-- What the code's header and answers say, in the definitions' words. A refusal has the number that the requirements give it.
+use Rattle.std.specs.Prelude.{Result, Ok, Err}
 use Rattle.format.specs.Header as format
+use Rattle.refusal.specs.Numbers.{number_of}
+use Rattle.refusal.specs.declared.Refusal.{Refusal}
 use Rattle.header.specs.declared.LsaHeader.{LsaHeader}
-use Rattle.header.specs.declared.Reading.{Reading}
-use Rattle.header.specs.declared.Reading.TheVariants as R
 use Rattle.header.specs.declared.Newness.{Newness}
-use Rattle.header.specs.declared.Newness.TheVariants as N
+use Rattle.header.specs.declared.Newness.TheVariants.{First, Second, Same}
 
-abbrev pub header_of : format.Header → LsaHeader
-header_of h = record {
-  age = h.age;
-  ls_type = h.ls_type;
-  link_state_id = h.link_state_id;
-  advertising_router = h.advertising_router;
-  sequence_number = h.sequence_number;
-  checksum = h.checksum;
-  length = h.size;
-}
-
-abbrev pub reading_of : format.Reading → Reading
-reading_of (format.Reading.header h) = R.Header (header_of h)
-reading_of (format.Reading.refused n) = R.Refused n
-
--- What a header of the code says.
 abbrev pub meaning : LsaHeader → format.Header
 meaning h = record {
   age = h.age;
@@ -33,8 +18,12 @@ meaning h = record {
   size = h.length;
 }
 
-abbrev pub newness_of : format.Newness → Newness
-newness_of format.Newness.first = N.First
-newness_of format.Newness.second = N.Second
-newness_of format.Newness.same = N.Same
-newness_of (format.Newness.refused n) = N.Refused n
+abbrev pub reading_meaning : Result LsaHeader Refusal → format.Reading
+reading_meaning (Ok h) = format.Reading.header (meaning h)
+reading_meaning (Err r) = format.Reading.refused (number_of r)
+
+abbrev pub newness_meaning : Result Newness Refusal → format.Newness
+newness_meaning (Ok First) = format.Newness.first
+newness_meaning (Ok Second) = format.Newness.second
+newness_meaning (Ok Same) = format.Newness.same
+newness_meaning (Err r) = format.Newness.refused (number_of r)

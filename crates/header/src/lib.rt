@@ -3,21 +3,23 @@
 #![tactic(auto)]
 
 ghost use Rattle.std.specs.Prelude.{◌≡◌, ◌+◌, ◌≤◌, ◌<◌, length};
-ghost use Rattle.format.specs.Header.{header_size, max_age, instance_entries, header2, header3, header_with, read_header, newness, newness_at, signed_rank, aged, younger};
+ghost use Rattle.format.specs.Header.{header_size, max_age, instance_entries, header2, header3, header_with, read_header, newness, newness_at, aged, younger};
 ghost use Rattle.format.specs.Strip.{encode};
 ghost use Rattle.format.specs.Wrote.{Wrote};
-ghost use Rattle.header.specs.Answers.{header_of, reading_of, newness_of, meaning};
+ghost use Rattle.header.specs.Answers.{meaning, reading_meaning, newness_meaning};
 
+use refusal::Refusal;
+use std::cmp::Ordering;
 use strip_ids::kind::{U16_LENGTH, U32_LENGTH};
 use strip_push::{push_u16_at, push_u32_at};
 use util::{read_be_u16, read_be_u32, read_ipv4_addr};
-use walk_answer::{NO_VERSION, TOO_LITTLE, is_known};
+use walk_answer::is_known;
 
 pub mod v2;
 pub mod v3;
 
 // What both versions' headers say.
-#[derive(Clone, Copy)]
+#[derive(Clone, Copy, PartialEq, Eq, Debug)]
 pub struct LsaHeader {
     pub age: u16,
     pub ls_type: u16,
@@ -28,24 +30,13 @@ pub struct LsaHeader {
     pub length: u16,
 }
 
-// A header, or the number of the refusal.
-#[derive(Clone, Copy)]
-pub enum Reading {
-    Header(LsaHeader),
-    Refused(u8),
-}
-
-// Which of two instances is newer, or the number of the refusal.
-#[derive(Clone, Copy)]
+// Which of two instances is newer.
+#[derive(Clone, Copy, PartialEq, Eq, Debug)]
 pub enum Newness {
     First,
     Second,
     Same,
-    Refused(u8),
 }
-
-// The refusal of newness where an age is above MaxAge.
-const AGE_REFUSED: u8 = 11;
 
 impl LsaHeader {
     // The header's length in bytes (RFC 2328 A.4.1).
@@ -77,27 +68,29 @@ impl LsaHeader {
 
     pub const MAX_AGE_DIFF: u16 = 900;
 
-    // The header at the front of an LSA of this version.
-    pub fn read(version: u8, bytes: &[u8]) -> Reading
-        ensures { result ≡ reading_of (read_header version bytes.now) }
+    // The header at the front of an LSA of this version. Inlined: a Result of this size is else written and read back.
+    #[inline(always)]
+    #[tactic(auto, unfolding(format::specs::Header::read_header))]
+    pub fn read(version: u8, bytes: &[u8]) -> Result<LsaHeader, Refusal>
+        ensures { reading_meaning result ≡ read_header version bytes.now }
     {
         if !is_known(version) {
-            return Reading::Refused(NO_VERSION);
+            return Err(Refusal::NoVersion);
         }
         if bytes.len() < LsaHeader::SIZE {
-            return Reading::Refused(TOO_LITTLE);
+            return Err(Refusal::TooLittle);
         }
-        if version == 2 {
-            Reading::Header(LsaHeader::v2(bytes))
+        Ok(if version == 2 {
+            LsaHeader::v2(bytes)
         } else {
-            Reading::Header(LsaHeader::v3(bytes))
-        }
+            LsaHeader::v3(bytes)
+        })
     }
 
     // The header of a version 2 LSA (RFC 2328 A.4.1).
     fn v2(body: &[u8]) -> LsaHeader
         requires { header_size ≤ length body.now }
-        ensures { result ≡ header_of (header2 body.now) }
+        ensures { meaning result ≡ header2 body.now }
     {
         LsaHeader::with_type(body[LsaHeader::V2_TYPE_AT] as u16, body)
     }
@@ -105,14 +98,14 @@ impl LsaHeader {
     // The header of a version 3 LSA (RFC 5340 A.4.2).
     fn v3(body: &[u8]) -> LsaHeader
         requires { header_size ≤ length body.now }
-        ensures { result ≡ header_of (header3 body.now) }
+        ensures { meaning result ≡ header3 body.now }
     {
         LsaHeader::with_type(read_be_u16(body, LsaHeader::V3_TYPE_AT), body)
     }
 
     fn with_type(ls_type: u16, body: &[u8]) -> LsaHeader
         requires { header_size ≤ length body.now }
-        ensures { result ≡ header_of (header_with ls_type body.now) }
+        ensures { meaning result ≡ header_with ls_type body.now }
     {
         LsaHeader {
             age: read_be_u16(body, LsaHeader::AGE_AT),
@@ -142,79 +135,44 @@ fn push_instance_fields(strip: &mut [u8], at: usize, id: u8, body: &[u8], o: u32
     push_u16_at(strip, b, id + 2, body, LsaHeader::LENGTH_AT, o)
 }
 
-// The place of a sequence number in the signed order.
-fn signed_rank(n: u32) -> u32
-    ensures { result ≡ signed_rank n }
-{
-    if n < 2147483648 {
-        n + 2147483648
-    } else {
-        n - 2147483648
-    }
-}
-
 // Which of two LSAs of one version, given by their bytes, is newer.
-pub fn newer_lsa(version: u8, first: &[u8], second: &[u8]) -> Newness
-    ensures { result ≡ newness_of (newness_at version first.now second.now) }
+#[tactic(auto, unfolding(format::specs::Header::newness_at))]
+pub fn newer_lsa(version: u8, first: &[u8], second: &[u8]) -> Result<Newness, Refusal>
+    ensures { newness_meaning result ≡ newness_at version first.now second.now }
 {
-    let x = LsaHeader::read(version, first);
-    let y = LsaHeader::read(version, second);
-    match x {
-        Reading::Refused(n) => Newness::Refused(n),
-        Reading::Header(a) => match y {
-            Reading::Refused(n) => Newness::Refused(n),
-            Reading::Header(b) => newer(a, b),
-        },
-    }
+    let x = LsaHeader::read(version, first)?;
+    let y = LsaHeader::read(version, second)?;
+    newer(x, y)
 }
 
-// Which of two instances of an LSA is newer (RFC 2328 13.1).
-pub fn newer(x: LsaHeader, y: LsaHeader) -> Newness
-    ensures { result ≡ newness_of (newness (meaning x) (meaning y)) }
+// Which of two instances of an LSA is newer (RFC 2328 13.1). Sequence numbers are signed.
+#[tactic(auto, unfolding(format::specs::Header::newness))]
+pub fn newer(x: LsaHeader, y: LsaHeader) -> Result<Newness, Refusal>
+    ensures { newness_meaning result ≡ newness (meaning x) (meaning y) }
 {
-    if LsaHeader::MAX_AGE < x.age {
-        return Newness::Refused(AGE_REFUSED);
+    if LsaHeader::MAX_AGE < x.age || LsaHeader::MAX_AGE < y.age {
+        return Err(Refusal::AgeTooLarge);
     }
-    if LsaHeader::MAX_AGE < y.age {
-        return Newness::Refused(AGE_REFUSED);
+    let a = x.sequence_number.cast_signed();
+    let b = y.sequence_number.cast_signed();
+    match a.cmp(&b).then(x.checksum.cmp(&y.checksum)) {
+        Ordering::Greater => Ok(Newness::First),
+        Ordering::Less => Ok(Newness::Second),
+        Ordering::Equal => Ok(newer_by_age(x.age, y.age)),
     }
-    let a = signed_rank(x.sequence_number);
-    let b = signed_rank(y.sequence_number);
-    if b < a {
-        return Newness::First;
-    }
-    if a < b {
-        return Newness::Second;
-    }
-    if y.checksum < x.checksum {
-        return Newness::First;
-    }
-    if x.checksum < y.checksum {
-        return Newness::Second;
-    }
-    newer_by_age(x.age, y.age)
 }
 
 // The newer by age, all else alike.
 fn newer_by_age(x: u16, y: u16) -> Newness
     requires x_le_max_age { x ≤ max_age }
     requires y_le_max_age { y ≤ max_age }
-    ensures { result ≡ newness_of (aged x y (younger x y)) }
+    ensures { newness_meaning (Ok result) ≡ aged x y (younger x y) }
 {
-    if x == LsaHeader::MAX_AGE {
-        if y == LsaHeader::MAX_AGE {
-            return Newness::Same;
-        }
-        return Newness::First;
+    match (x == LsaHeader::MAX_AGE, y == LsaHeader::MAX_AGE) {
+        (true, false) => Newness::First,
+        (false, true) => Newness::Second,
+        _ if x + LsaHeader::MAX_AGE_DIFF < y => Newness::First,
+        _ if y + LsaHeader::MAX_AGE_DIFF < x => Newness::Second,
+        _ => Newness::Same,
     }
-    if y == LsaHeader::MAX_AGE {
-        return Newness::Second;
-    }
-    if x + LsaHeader::MAX_AGE_DIFF < y {
-        return Newness::First;
-    }
-    if y + LsaHeader::MAX_AGE_DIFF < x {
-        return Newness::Second;
-    }
-    Newness::Same
 }

@@ -7,7 +7,10 @@ mod prefixes;
 mod readers;
 mod strips;
 
+use refusal::Refusal;
+use replay_text::{number, word};
 use std::io;
+use std::io::Write;
 
 fn main(rt: HostRuntime) -> io::Result<()> {
     let mut to = io::writer(&rt);
@@ -15,4 +18,10 @@ fn main(rt: HostRuntime) -> io::Result<()> {
     newness::run(&mut to)?;
     readers::run(&mut to)?;
     strips::run(&mut to)
+}
+
+// Where an answer would stand.
+fn refused(to: &mut impl Write, refusal: Refusal) -> io::Result<()> {
+    word(to, b" refused")?;
+    number(to, refusal.number() as u64)
 }

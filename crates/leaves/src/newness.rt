@@ -1,4 +1,5 @@
 // Newness around MaxAge, around MaxAgeDiff and around the sign of the sequence number.
+use crate::refused;
 use header::{LsaHeader, Newness, newer};
 use replay_text::{line, number, word};
 use std::io;
@@ -54,10 +55,10 @@ fn print(to: &mut impl Write, s: u32, c: u16, a: u16, t: u32, d: u16, b: u16) ->
     show(to, s, c, a)?;
     show(to, t, d, b)?;
     match newer(with(s, c, a), with(t, d, b)) {
-        Newness::First => word(to, b" first")?,
-        Newness::Second => word(to, b" second")?,
-        Newness::Same => word(to, b" same")?,
-        Newness::Refused(n) => refused(to, n)?,
+        Ok(Newness::First) => word(to, b" first")?,
+        Ok(Newness::Second) => word(to, b" second")?,
+        Ok(Newness::Same) => word(to, b" same")?,
+        Err(refusal) => refused(to, refusal)?,
     }
     line(to)
 }
@@ -78,9 +79,4 @@ fn with(sequence_number: u32, checksum: u16, age: u16) -> LsaHeader {
         checksum,
         length: 20,
     }
-}
-
-fn refused(to: &mut impl Write, n: u8) -> io::Result<()> {
-    word(to, b" refused")?;
-    number(to, n as u64)
 }

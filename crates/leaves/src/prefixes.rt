@@ -1,8 +1,9 @@
 // Octets of every prefix length, and comparisons.
+use crate::refused;
 use replay_text::{line, number, word};
 use std::io;
 use std::io::Write;
-use tlv::{Comparison, Prefix, compare_prefixes, prefix_octets};
+use tlv::{Prefix, compare_prefixes, prefix_octets};
 use util::Length;
 
 pub fn run(to: &mut impl Write) -> io::Result<()> {
@@ -11,7 +12,7 @@ pub fn run(to: &mut impl Write) -> io::Result<()> {
 }
 
 fn every_length(to: &mut impl Write) -> io::Result<()> {
-    for length in 0..=255 {
+    for length in 0..=u8::MAX {
         print_octets(to, length)?;
     }
     Ok(())
@@ -61,14 +62,9 @@ fn print_comparison(to: &mut impl Write, l: u8, a: [u8; 16], m: u8, b: [u8; 16])
         },
     );
     match answer {
-        Comparison::Same => word(to, b" same")?,
-        Comparison::Different => word(to, b" different")?,
-        Comparison::Refused(n) => refused(to, n)?,
+        Ok(true) => word(to, b" same")?,
+        Ok(false) => word(to, b" different")?,
+        Err(refusal) => refused(to, refusal)?,
     }
     line(to)
-}
-
-fn refused(to: &mut impl Write, n: u8) -> io::Result<()> {
-    word(to, b" refused")?;
-    number(to, n as u64)
 }

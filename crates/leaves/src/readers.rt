@@ -1,5 +1,7 @@
 // The readers, at both ends of a slice.
-use header::{LsaHeader, Reading};
+use crate::refused;
+use header::LsaHeader;
+use refusal::Refusal;
 use replay_text::{line, number, word};
 use std::io;
 use std::io::Write;
@@ -39,10 +41,10 @@ fn headers(to: &mut impl Write) -> io::Result<()> {
     reading(to, LsaHeader::read(3, s))
 }
 
-fn reading(to: &mut impl Write, r: Reading) -> io::Result<()> {
+fn reading(to: &mut impl Write, r: Result<LsaHeader, Refusal>) -> io::Result<()> {
     match r {
-        Reading::Header(h) => header(to, h)?,
-        Reading::Refused(n) => refused(to, n)?,
+        Ok(h) => header(to, h)?,
+        Err(refusal) => refused(to, refusal)?,
     }
     line(to)
 }
@@ -55,9 +57,4 @@ fn header(to: &mut impl Write, h: LsaHeader) -> io::Result<()> {
     number(to, h.sequence_number as u64)?;
     number(to, h.checksum as u64)?;
     number(to, h.length as u64)
-}
-
-fn refused(to: &mut impl Write, n: u8) -> io::Result<()> {
-    word(to, b" refused")?;
-    number(to, n as u64)
 }

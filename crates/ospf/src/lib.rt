@@ -3,7 +3,7 @@
 // the length of a block after a packet, of all others zero.
 #![tactic(auto)]
 
-ghost use Rattle.std.specs.Prelude.{◌≡◌, ◌<◌, length};
+ghost use Rattle.std.specs.Prelude.{◌≡◌, ◌<◌, length, IfOk, MatchResult};
 ghost use Rattle.format.specs.Walks.{headers_of, update_of, lsa_of, answer_of, strip_of};
 ghost use Rattle.format.specs.Header.{newness_at};
 ghost use Rattle.format.specs.Prefix.{address, comparison};
@@ -12,12 +12,13 @@ ghost use Rattle.format.specs.Checksum.{check, making, made_lsa};
 ghost use Rattle.format.specs.Trailer.{lls_of, auth_trailer_of, block_answer, block_strip};
 ghost use Rattle.format.specs.Packed.{word, packed, packed_newness, packed_comparison, packed_step, packed_check, packed_making, packed_block};
 ghost use Rattle.trailer.specs.Answers.{meaning, Small};
-ghost use Rattle.ospf.specs.Answers.{newness_meaning, comparison_meaning};
+ghost use Rattle.refusal.specs.Numbers.{number_of};
 
-use checksum::{Check, Making, check_checksum, make_checksum};
+use checksum::{check_checksum, make_checksum};
 use header::{Newness, newer_lsa};
+use refusal::Refusal;
 use strip_step::step_at;
-use tlv::{Comparison, Prefix, compare_prefixes, prefix_to_ipv6};
+use tlv::{Prefix, compare_prefixes, prefix_to_ipv6};
 use trailer::{Block, push_auth_trailer, push_lls};
 
 #[unsafe(no_mangle)]
@@ -58,7 +59,12 @@ pub extern "C" fn ospf_lsa(version: u8, data: &[u8], offset: u64, strip: &mut [u
 pub extern "C" fn ospf_newness(version: u8, first: &[u8], second: &[u8]) -> u64
     ensures { result ≡ packed_newness (newness_at version first.now second.now) }
 {
-    newness_word(newer_lsa(version, first, second))
+    let newness = newer_lsa(version, first, second);
+    answer_word(newness.map(|newness| match newness {
+        Newness::Same => 0,
+        Newness::First => 1,
+        Newness::Second => 2,
+    }))
 }
 
 // Whether two prefixes are the same: 1 or 0. Each is a length in bits and octets as they lie in a packet.
@@ -79,7 +85,7 @@ pub extern "C" fn ospf_prefix_compare(
         length: second_length,
         address: prefix_to_ipv6(second),
     };
-    comparison_word(compare_prefixes(a, b))
+    answer_word(compare_prefixes(a, b).map(usize::from))
 }
 
 // The length of the entry that stands at a place of a strip, 0 at its end.
@@ -91,7 +97,7 @@ pub extern "C" fn ospf_strip_step(strip: &[u8], place: usize) -> u64
     match step_at(strip, place) {
         Ok(Some((_, next))) => pack(0, next - place),
         Ok(None) => pack(0, 0),
-        Err(refusal) => pack(refusal.number(), 0),
+        Err(refused) => pack(refused.number(), 0),
     }
 }
 
@@ -100,11 +106,7 @@ pub extern "C" fn ospf_strip_step(strip: &[u8], place: usize) -> u64
 pub extern "C" fn ospf_lsa_checksum_check(lsa: &[u8]) -> u64
     ensures { result ≡ packed_check (check lsa.now) }
 {
-    match check_checksum(lsa) {
-        Check::Good => pack(0, 1),
-        Check::Bad => pack(0, 0),
-        Check::Refused(n) => pack(n, 0),
-    }
+    answer_word(check_checksum(lsa).map(usize::from))
 }
 
 // Makes the LS checksum of an LSA and writes it there: its two bytes, as a number of 16 bits.
@@ -113,10 +115,7 @@ pub extern "C" fn ospf_lsa_checksum_make(lsa: &mut [u8]) -> u64
     ensures value { result ≡ packed_making (making lsa.old) }
     ensures lsa_after { lsa.new ≡ made_lsa (making lsa.old) lsa.old }
 {
-    match make_checksum(lsa) {
-        Making::Made(field) => pack(0, field as usize),
-        Making::Refused(n) => pack(n, 0),
-    }
+    answer_word(make_checksum(lsa).map(usize::from))
 }
 
 // The LLS data block at the front of the data, if one stands there.
@@ -148,24 +147,14 @@ fn block_word(answer: Block) -> u64
     }
 }
 
-fn newness_word(newness: Newness) -> u64
-    ensures { result ≡ packed_newness (newness_meaning newness) }
+// A result, or the number of the refusal.
+fn answer_word(answer: Result<usize, Refusal>) -> u64
+    requires { IfOk answer (λ n. n < 4294967296) }
+    ensures { MatchResult answer (λ n. result ≡ word 0 n) (λ r. result ≡ word (number_of r) 0) }
 {
-    match newness {
-        Newness::Same => pack(0, 0),
-        Newness::First => pack(0, 1),
-        Newness::Second => pack(0, 2),
-        Newness::Refused(n) => pack(n, 0),
-    }
-}
-
-fn comparison_word(comparison: Comparison) -> u64
-    ensures { result ≡ packed_comparison (comparison_meaning comparison) }
-{
-    match comparison {
-        Comparison::Same => pack(0, 1),
-        Comparison::Different => pack(0, 0),
-        Comparison::Refused(n) => pack(n, 0),
+    match answer {
+        Ok(res) => pack(0, res),
+        Err(refusal) => pack(refusal.number(), 0),
     }
 }
 

@@ -1,2 +1,2 @@
--- The theorems about the code's answers and its loops.
-pub mod Loops
+-- Laws of an address and of the comparison of two.
+pub mod Addresses

@@ -1,10 +1,11 @@
--- The code's answers for those of the definitions. A refusal has the number that the requirements give it.
-use Rattle.format.specs.Prefix as prefix
+-- What the code's comparison says, in the definitions' words. A refusal has the number that the requirements give it.
+use Rattle.std.specs.Prelude.{Bool, true, false, Result, Ok, Err}
+use Rattle.format.specs.Prefix.{Comparison}
 use Rattle.format.specs.Prefix.Comparison.{same, different, refused}
-use Rattle.tlv.specs.declared.Comparison.{Comparison}
-use Rattle.tlv.specs.declared.Comparison.TheVariants.{Same, Different, Refused}
+use Rattle.refusal.specs.Numbers.{number_of}
+use Rattle.refusal.specs.declared.Refusal.{Refusal}
 
-abbrev pub comparison_of : prefix.Comparison → Comparison
-comparison_of same = Same
-comparison_of different = Different
-comparison_of (refused n) = Refused n
+abbrev pub comparison_meaning : Result Bool Refusal → Comparison
+comparison_meaning (Ok true) = same
+comparison_meaning (Ok false) = different
+comparison_meaning (Err r) = refused (number_of r)

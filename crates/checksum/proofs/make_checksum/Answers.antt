@@ -1,42 +1,29 @@
-use Prim.Native.Nat.{ℕ, ◌+◌, ◌*◌, ◌/◌, ◌%◌, ◌<◌}
-use native.Mathlib.Omega.{arith}
-use mathlib.Core.Path.{◌≡◌, sym, ap, ◌∙◌}
-use mathlib.Core.Bool.{true}
-use mathlib.Core.List.{List}
-use lib.ListN.{set}
-use Rattle.format.specs.Checksum.{is_lsa, making, first_octet, second_octet}
+use Rattle.std.proofs.Common.{◌≡◌, ℕ, ◌/◌, ◌%◌, ◌≤◌, List, [], ◌∷◌, ◌++◌, length, take, drop, set, sym, ◌∙◌, append_assoc, arith}
+use Rattle.std.proofs.lemmas.List.{drop-drop}
+use Rattle.std.proofs.lemmas.List.Edits.{sets-eq}
+use Rattle.format.specs.Checksum.{making, first_octet, second_octet}
 use Rattle.format.proofs.Fletcher.{is_lsa_lem, field-octets}
-use Rattle.checksum.specs.declared.Making.TheVariants.{Made}
 use Rattle.checksum.proofs.make_checksum.Goals as goal
-use Rattle.checksum.proofs.make_checksum.Goals.{Else-not-is_lsa}
 
-pub returns-then-not-is_lsa : goal.returns-then-not-is_lsa
+-- Two bytes written at once are the two set one after the other.
+set_two : (l : List ℕ) (x y : ℕ) → 18 ≤ length l → take 16 l ++ (x ∷ y ∷ drop 2 (drop 16 l)) ≡ set (set l 16 x) 17 y
+set_two l x y h = rw drop-drop (sym (sets-eq (x ∷ y ∷ []) l 16 h ∙ append_assoc (take 16 l) (x ∷ y ∷ []) (drop 18 l)))
+
+pub returns-clause-value : goal.returns-clause-value
 unfolding making
-returns-then-not-is_lsa c =
-    let e = sym c.is_lsa.ensures ∙ c.if-not-is_lsa.true in
-    record {
-      value = rw e;
-      lsa_after = rw e;
-    }
-
-taken : (c : Else-not-is_lsa) → is_lsa c.args.lsa.now ≡ true
-taken c = sym c.is_lsa.ensures ∙ c.if-not-is_lsa.false
-
--- The field's bytes are its quotient and its remainder.
-bytes : (lsa : List ℕ) (n x y : ℕ) → n ≡ x * 256 + y → y < 256 → set (set lsa 16 (n / 256)) 17 (n % 256) ≡ set (set lsa 16 x) 17 y
-bytes lsa n x y e h =
-    let p : n / 256 ≡ x = omega arith in
-    let q : n % 256 ≡ y = omega arith in
-    rw (p, q)
-
-pub returns : goal.returns
-unfolding making
-returns c =
+returns-clause-value c =
     let lsa = c.args.lsa.now in
-    let e = taken (goal.at.returns c).Else-not-is_lsa in
-    let f = c.checksum_of-field.ensures in
-    let o = (field-octets lsa (is_lsa_lem lsa e)).1.1 in
-    record {
-      value = rw e (ap Made f);
-      lsa_after = rw e (bytes lsa _ (first_octet lsa) (second_octet lsa) f (omega arith));
-    }
+    let e = c.in_ok-try_from.ensures.1 in
+    let o = field-octets lsa (is_lsa_lem lsa e) in
+    let f = rw (c.checksum-field.ensures, c.in_ok-try_from.ensures.0) at c.from_be_bytes.ensures in
+    let p : c.from_be_bytes.result / 256 ≡ first_octet lsa = omega (arith, f, o.1.1) in
+    let q : c.from_be_bytes.result % 256 ≡ second_octet lsa = omega (arith, f, o.1.1) in
+    rw (e, p, q)
+
+pub returns-clause-lsa_after : goal.returns-clause-lsa_after
+unfolding making
+returns-clause-lsa_after c =
+    let lsa = c.args.lsa.now in
+    let e = c.in_ok-try_from.ensures.1 in
+    let i = is_lsa_lem lsa e in
+    rw (c.copy_from_slice.ensures.after, c.checksum-field.ensures, c.in_ok-try_from.ensures.0, e) (set_two lsa _ _ (omega (arith, i.0)))

@@ -1,0 +1,2 @@
+-- Laws of an LSA that is read by words.
+pub mod Words
