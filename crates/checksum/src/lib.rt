@@ -13,7 +13,7 @@ use refusal::Refusal;
 const MAX_LENGTH: usize = 65535;
 
 // Bytes that are taken for an LSA: a header's at least, and no more than the length of an LSA can say.
-#[derive(Clone, Copy)]
+#[derive(Clone, Copy, PartialEq, Eq, Debug)]
 struct Lsa<'a> {
     bytes: &'a [u8],
     ghost least: { header_size ≤ length bytes.now },
@@ -21,7 +21,7 @@ struct Lsa<'a> {
 }
 
 // C0 and C1 of annex B of RFC 905, modulo 255.
-#[derive(Clone, Copy)]
+#[derive(Clone, Copy, PartialEq, Eq, Debug)]
 struct Sums {
     c0: u64,
     c1: u64,

@@ -10,10 +10,13 @@ ghost use Rattle.format.specs.Pieces.{Left};
 
 use dissect_input::{MAX_INPUT, run};
 use print_lines::{LINE, answer_line};
-use print_listing::{put_lines, shown_part};
+use print_listing::{Lines, put_lines, shown_part};
 use read_input::read_full;
 use std::io;
 use std::io::{Read, Write};
+
+// The room of the strip's buffer, and of the one for lines.
+const ROOM: usize = 65536;
 
 fn main(rt: HostRuntime) -> io::Result<()> {
     dissect(&mut rt.stdin(), &mut io::writer(&rt))
@@ -30,19 +33,12 @@ fn dissect<R: Read, W: Write>(from: &mut R, to: &mut W) -> io::Result<()>
     Ok(())
 }
 
-// 65,536 zeros. Only their number is told, which lending the array as a slice needs.
-fn large_buffer() -> [u8; 65536]
-    ensures { 65536 ≡ length result }
-{
-    [0; 65536]
-}
-
 // Writes the text of an input piece by piece, and answers how many bytes went out: all of it.
 fn write_text<W: Write>(to: &mut W, input: &[u8]) -> io::Result<usize>
     ensures count { IfOk result (λ n. n ≡ length (printed input.now)) }
     ensures bytes { OnOk result (Appends (W.contents to.old) (W.contents to.new) (printed input.now)) }
 {
-    let mut strip = large_buffer();
+    let mut strip = [0u8; ROOM];
     let answer = run(input, &mut strip);
     let mut line = [0u8; LINE];
     let k = answer_line(&mut line, answer);
@@ -61,17 +57,16 @@ fn write_entries<W: Write>(
     ensures count { IfOk result (λ n. n ≡ length (printed input.now)) }
     ensures bytes { OnOk result (Appends (W.contents to.old) (W.contents to.new) (drop first (printed input.now))) }
 {
-    let mut out = large_buffer();
+    let mut out = [0u8; ROOM];
     let mut written = first;
     let mut place: usize = 0;
     loop {
-        let lines = put_lines(&mut out, strip, place);
-        let k = lines.length;
-        if k == 0 {
+        let Lines { length, next } = put_lines(&mut out, strip, place);
+        if length == 0 {
             break;
         }
-        written = write_piece(to, input, written, &out[..k])?;
-        place = lines.next;
+        written = write_piece(to, input, written, &out[..length])?;
+        place = next;
     }
     Ok(written)
 }

@@ -1,35 +1,30 @@
 // What the program makes of its input: version, walk, data.
 #![tactic(auto)]
 
-ghost use Rattle.std.specs.Prelude.{◌≡◌, ◌≤◌, length};
-ghost use Rattle.format.specs.Walks.{answer_of, strip_of};
+ghost use Rattle.std.specs.Prelude.{◌≡◌, ◌≤◌, length, IfOk};
 ghost use Rattle.format.specs.Print.{count_of, program_of};
-ghost use Rattle.walk_answer.specs.Answers.{answered};
+ghost use Rattle.walk_answer.specs.Answers.{Promised};
 
+use refusal::Refusal;
 use util::read_be_u32;
-use walk::{Answer, refused, walk_by_number};
+use walk::{Answer, walk_by_number};
 
 // The most bytes of input.
 pub const MAX_INPUT: usize = 2050;
 
-// The program's refusals before those of the walk that is named.
-const TOO_MUCH: u8 = 2;
-
-const TOO_LITTLE: u8 = 4;
-
-pub fn run(input: &[u8], strip: &mut [u8]) -> Answer
-    ensures value { result ≡ answered (answer_of (program_of input.now) (length strip.old)) }
-    ensures strip_after { strip.new ≡ strip_of (program_of input.now) strip.old }
-    ensures length_in_bounds { result.number ≡ 0 → result.length ≤ length strip.new }
+// The program's refusals of too much and too little input come before those of the walk that is named.
+#[tactic(auto, unfolding(format::specs::Print::program_of, format::specs::Walks::answer_of, format::specs::Walks::strip_of))]
+pub fn run(input: &[u8], strip: &mut [u8]) -> Result<Answer, Refusal>
+    ensures walked { Promised (program_of input.now) strip.old result strip.new }
+    ensures length_in_bounds { IfOk result (λ a. a.length ≤ length strip.new) }
 {
     if MAX_INPUT < input.len() {
-        return refused(TOO_MUCH);
+        return Err(Refusal::TooMuch);
     }
-    if input.len() < 2 {
-        return refused(TOO_LITTLE);
-    }
-    let data = &input[2..];
-    walk_by_number(input[0], input[1], data, count_of(data), 0, strip)
+    let [version, walk, data @ ..] = input else {
+        return Err(Refusal::TooLittle);
+    };
+    walk_by_number(*version, *walk, data, count_of(data), 0, strip)
 }
 
 // An update's count: its first four bytes.

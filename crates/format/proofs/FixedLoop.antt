@@ -15,7 +15,7 @@ use Rattle.format.proofs.Loop.{Writing, Measuring, spread, begin, turn, room, fi
 use Rattle.format.proofs.Lists.{fixed_stands}
 
 -- Where an entry is still due, it lies in the body, and so do those after it.
-due : (n : ℕ) (b : List ℕ) (pos left : ℕ) → pos + left * n ≤ length b → 0 < left → (pos + n ≤ length b) × (pos + n + (left - 1) * n ≤ length b)
+pub due : (n : ℕ) (b : List ℕ) (pos left : ℕ) → pos + left * n ≤ length b → 0 < left → (pos + n ≤ length b) × (pos + n + (left - 1) * n ≤ length b)
 due n b pos zero h l = absurd (not-suc-le-zero l)
 due n b pos (suc k) h l =
     let m = suc-mul k n in

@@ -13,6 +13,7 @@ pub mod Lists
 pub mod FixedLoop
 pub mod Prefix
 pub mod Lengths
+pub mod Lent
 pub mod Bounds
 pub mod Sizes
 pub mod Decided

@@ -88,7 +88,7 @@ Measuring r f b count from total pos left = Going r b count from (λ ss. total �
 
 module _ (r : Rule) (f : Span → List Entry) (b : List ℕ) (count from : ℕ) where
   -- the bytes of the entries before the next, and its own, are no more than those of all
-  ahead : {holds : List Span → Type 0} {pos left : ℕ} (n : ℕ) (g : Going r b count from holds pos left) → 0 < left → r b pos ≡ some n
+  pub ahead : {holds : List Span → Type 0} {pos left : ℕ} (n : ℕ) (g : Going r b count from holds pos left) → 0 < left → r b pos ≡ some n
       → length (spread f g.visited) + length (encode (f (span pos n))) ≤ length (spread f (cut r b count from))
   ahead {pos = pos} {left} n g h e =
       rw (← going_next r b count from n g h e, spread_append, spread_cons)

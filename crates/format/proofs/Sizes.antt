@@ -33,7 +33,7 @@ Sized2 b x = Sized (9 * length b + 42) x
 
 module _ (b : List ℕ) (o : ℕ) where
   -- a link has nine bytes at most for each of its own
-  link_bound : (p n : ℕ) → link_rule b p ≡ some n → length (encode (v2.link b o (span p n))) ≤ 9 * n
+  pub link_bound : (p n : ℕ) → link_rule b p ≡ some n → length (encode (v2.link b o (span p n))) ≤ 9 * n
   unfolding v2.link_tos container encode code
   link_bound p n e =
       let h = link_inside_lem b p n e in

@@ -11,7 +11,7 @@ use lib.Dec.{ltb, eqb}
 use borrow.Author.Tests.{ltb-true, ltb-false, eqb-true, eqb-false}
 use Rattle.format.specs.Strip.{Entry, code, encode, container}
 use Rattle.format.specs.Cut.{standing}
-use Rattle.format.specs.Trailer.{Block, BlockAnswer, lls_entries, auth_trailer_entries, limit, block_of, block_answer, block_strip}
+use Rattle.format.specs.Trailer.{Block, BlockAnswer, lls_header, lls_size, lls_rule, lls_entries, auth_trailer_header, auth_trailer_size, auth_trailer_rule, auth_trailer_entries, limit, block_of, block_answer, block_strip}
 use Rattle.format.proofs.Rules.{inside as in_Body}
 use Rattle.format.proofs.CutInto.{stands_where}
 use Rattle.format.specs.Trailer.Block.{absent, found, refused}
@@ -42,6 +42,13 @@ module _ (fixed : ℕ) (declared : List ℕ → ℕ → ℕ) (d : List ℕ) wher
       go : (x : Option ℕ) → front ≡ x → front ≡ none
       go none e = e
       go (some n) e = absurd (h (stood n e).1)
+
+-- A block that stands has its fixed part, and lies in the data.
+pub lls_stands : (d : List ℕ) (n : ℕ) → lls_rule d 0 ≡ some n → (lls_header ≤ n) × (n ≤ length d)
+lls_stands d n e = let s = stood lls_header lls_size d n e in rw s.0 (s.1.covers, s.1.inside)
+
+pub auth_trailer_stands : (d : List ℕ) (n : ℕ) → auth_trailer_rule d 0 ≡ some n → (auth_trailer_header ≤ n) × (n ≤ length d)
+auth_trailer_stands d n e = let s = stood auth_trailer_header auth_trailer_size d n e in rw s.0 (s.1.covers, s.1.inside)
 
 -- The strips, whatever the block's length.
 pub lls_strip_length : (d : List ℕ) (o n : ℕ) → length (encode (lls_entries d o n)) ≡ 45

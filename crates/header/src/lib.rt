@@ -1,17 +1,19 @@
 // The LSA header of both versions: its type and numbers, its reading from bytes, its entries in a strip, and which of two
 // instances is newer.
-#![tactic(auto)]
+#![tactic(auto, unfolding(format::specs::Strip::code, format::specs::Strip::encode, format::specs::Header::header_entries2, format::specs::Header::header_entries3))]
 
-ghost use Rattle.std.specs.Prelude.{◌≡◌, ◌+◌, ◌≤◌, ◌<◌, length};
+ghost use Rattle.std.specs.Prelude.{◌≡◌, ◌≤◌, length};
 ghost use Rattle.format.specs.Header.{header_size, max_age, instance_entries, header2, header3, header_with, read_header, newness, newness_at, aged, younger};
 ghost use Rattle.format.specs.Strip.{encode};
-ghost use Rattle.format.specs.Wrote.{Wrote};
 ghost use Rattle.header.specs.Answers.{meaning, reading_meaning, newness_meaning};
+ghost use Rattle.strip_put.specs.Writer.{HasRoom, Writes};
 
 use refusal::Refusal;
 use std::cmp::Ordering;
 use strip_ids::kind::{U16_LENGTH, U32_LENGTH};
-use strip_push::{push_u16_at, push_u32_at};
+use strip_push::field::{U16, U32};
+use strip_push::push_at;
+use strip_put::{Part, Writer};
 use util::{read_be_u16, read_be_u32, read_ipv4_addr};
 use walk_answer::is_known;
 
@@ -123,16 +125,15 @@ impl LsaHeader {
 const INSTANCE_LENGTH: usize = U32_LENGTH + 2 * U16_LENGTH;
 
 // LS sequence number, LS checksum and length, whose ids follow one another from id on.
-fn push_instance_fields(strip: &mut [u8], at: usize, id: u8, body: &[u8], o: u32) -> usize
-    requires o_in_bounds { at + length (encode (instance_entries id body.now o)) ≤ length strip.old }
+fn push_instance_fields(strip: &mut Writer, id: u8, lsa: Part)
+    requires room { HasRoom strip.old (length (encode (instance_entries id lsa.bytes.now lsa.offset))) }
     requires id_bound { id ≤ 5 }
-    requires header_size_in_bounds { header_size ≤ length body.now }
-    requires body_bound { o + length body.now < 4294967296 }
-    ensures { Wrote strip.old at (encode (instance_entries id body.now o)) strip.new result }
+    requires header_size_in_bounds { header_size ≤ length lsa.bytes.now }
+    ensures { Writes strip.old (encode (instance_entries id lsa.entry.bytes.now lsa.entry.offset)) strip.new }
 {
-    let a = push_u32_at(strip, at, id, body, LsaHeader::SEQUENCE_NUMBER_AT, o);
-    let b = push_u16_at(strip, a, id + 1, body, LsaHeader::CHECKSUM_AT, o);
-    push_u16_at(strip, b, id + 2, body, LsaHeader::LENGTH_AT, o)
+    push_at::<U32>(strip, id, lsa, LsaHeader::SEQUENCE_NUMBER_AT);
+    push_at::<U16>(strip, id + 1, lsa, LsaHeader::CHECKSUM_AT);
+    push_at::<U16>(strip, id + 2, lsa, LsaHeader::LENGTH_AT);
 }
 
 // Which of two LSAs of one version, given by their bytes, is newer.

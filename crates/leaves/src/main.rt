@@ -1,6 +1,6 @@
 // Runs the leaves on vectors and prints what they answer: octets of every prefix length, prefix comparison, newness,
 // the readers, and every kind of entry written and read back, with each refusal of the step.
-#![tactic(auto)]
+#![tactic(auto, unfolding(format::specs::Strip::code))]
 
 mod newness;
 mod prefixes;

@@ -4,7 +4,6 @@ use replay_text::{line, number, word};
 use std::io;
 use std::io::Write;
 use tlv::{Prefix, compare_prefixes, prefix_octets};
-use util::Length;
 
 pub fn run(to: &mut impl Write) -> io::Result<()> {
     every_length(to)?;
@@ -39,10 +38,9 @@ fn comparisons(to: &mut impl Write) -> io::Result<()> {
 fn print_octets(to: &mut impl Write, length: u8) -> io::Result<()> {
     word(to, b"octets")?;
     number(to, length as u64)?;
-    let octets = prefix_octets(length);
-    match octets {
-        Length::Bytes(n) => number(to, n as u64)?,
-        Length::Nothing => word(to, b" none")?,
+    match prefix_octets(length) {
+        Some(n) => number(to, n as u64)?,
+        None => word(to, b" none")?,
     }
     line(to)
 }

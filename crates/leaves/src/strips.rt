@@ -1,102 +1,98 @@
 // Every kind of entry, written and read back; the leaves on a body; metrics around LSInfinity; and the end and each refusal
 // of the step.
-ghost use Rattle.std.specs.Prelude.{◌≡◌, ◌+◌, ◌≤◌, length};
+ghost use Rattle.std.specs.Prelude.{◌≡◌, length};
+ghost use Rattle.strip_put.specs.Writer.{HasRoom};
 
 use print_lines::{LINE, entry_line};
 use replay_text::{line, number, word};
 use std::io;
 use std::io::Write;
+use strip_push::field::{Field, Ipv4, U8, U16, U24, U32, U64, Wide16};
 use strip_push::{
-    begin_container, end_container, push_bit_at, push_bytes, push_bytes_at, push_ipv4,
-    push_ipv4_at, push_ipv6, push_ipv6_at, push_low_bits_at, push_metric24_at, push_u8, push_u8_at,
-    push_u16, push_u16_at, push_u24_at, push_u32, push_u32_at, push_u64, push_u64_at,
-    push_unreachable, push_wide16_at,
+    FieldValue, begin_container, end_container, push_at, push_bit_at, push_bytes_at, push_field,
+    push_ipv6_at, push_low_bits_at, push_metric24_at,
 };
+use strip_put::{Part, Writer};
 use strip_step::{Entry, step_at};
 
 pub fn run(to: &mut impl Write) -> io::Result<()> {
     let mut strip = [0u8; 126];
-    kinds(&mut strip);
+    kinds(&mut Writer {
+        buffer: &mut strip,
+        at: 0,
+    });
     word(to, b"kinds\n")?;
     print_strip(to, &strip)?;
     let mut fields = [0u8; 195];
     let body = b"\xfe\xdc\xba\x98\x76\x54\x32\x10\x01\x23\x45\x67\x89\xab\xcd\xef\x85";
-    leaves(&mut fields, body);
+    leaves(
+        &mut Writer {
+            buffer: &mut fields,
+            at: 0,
+        },
+        Part::new(body, 1000),
+    );
     word(to, b"leaves\n")?;
     print_strip(to, &fields)?;
     let mut costs = [0u8; 70];
-    metrics(&mut costs, b"\x00\xff\xff\xff\xfe\xff\xff\x00");
+    metrics(
+        &mut Writer {
+            buffer: &mut costs,
+            at: 0,
+        },
+        Part::new(b"\x00\xff\xff\xff\xfe\xff\xff\x00", 1000),
+    );
     word(to, b"metrics\n")?;
     print_strip(to, &costs)?;
     refusals(to)
 }
 
 // One entry of each kind, with the largest numbers, and the first of them around the others.
-fn kinds(strip: &mut [u8])
-    requires { 126 ≤ length strip.old }
+fn kinds(strip: &mut Writer)
+    requires { HasRoom strip.old 126 }
 {
-    let a = begin_container(strip, 0, 255, 4294967295, 4294967295);
-    let b = push_u8(strip, a, 1, 0, 1, 0, 255);
-    let c = push_u16(strip, b, 2, 1, 2, 0, 65535);
-    let d = push_u32(strip, c, 3, 3, 4, 0, 4294967295);
-    let e = push_unreachable(strip, d, 9, 7, 3, 0);
-    more_kinds(strip, e);
-}
-
-fn more_kinds(strip: &mut [u8], at: usize)
-    requires { at + 69 ≤ length strip.old }
-{
-    let a = push_ipv4(strip, at, 4, 0, 4, 7, 3232235777);
-    let b = push_ipv6(strip, a, 5, 4, 16, 7, 2306139568115548160, 1);
-    let c = push_bytes(strip, b, 6, 27, 65562);
-    let d = push_u64(strip, c, 7, 27, 8, 7, 18446744073709551615);
-    end_container(strip, d);
+    begin_container(strip, 255, 4294967295..4294967295);
+    push_field(strip, 1, 0..1, FieldValue::U8(255));
+    push_field(strip, 2, 1..3, FieldValue::U16(65535));
+    push_field(strip, 3, 3..7, FieldValue::U32(4294967295));
+    push_field(strip, 9, 7..10, FieldValue::Unreachable);
+    push_field(strip, 4, 7..11, FieldValue::Ipv4(3232235777));
+    push_field(strip, 5, 11..27, FieldValue::Ipv6(2306139568115548160, 1));
+    push_field(strip, 6, 27..65562, FieldValue::Bytes);
+    push_field(strip, 7, 34..42, FieldValue::U64(18446744073709551615));
+    end_container(strip);
 }
 
 // Each leaf on a body that begins at the place 1,000.
-fn leaves(strip: &mut [u8], body: &[u8])
-    requires in_bounds { 195 ≤ length strip.old }
-    requires body_len { length body.now ≡ 17 }
+fn leaves(strip: &mut Writer, body: Part)
+    requires in_bounds { HasRoom strip.old 195 }
+    requires body_len { length body.bytes.now ≡ 17 }
 {
-    let a = push_u8_at(strip, 0, 10, body, 0, 1000);
-    let b = push_bit_at(strip, a, 11, body, 16, 1000, 128);
-    let c = push_low_bits_at(strip, b, 12, body, 16, 1000, 128);
-    let d = push_u16_at(strip, c, 13, body, 15, 1000);
-    numbers(strip, d, body);
-}
-
-fn numbers(strip: &mut [u8], at: usize, body: &[u8])
-    requires at_in_bounds { at + 150 ≤ length strip.old }
-    requires body_len { length body.now ≡ 17 }
-{
-    let a = push_u24_at(strip, at, 14, body, 14, 1000);
-    let b = push_metric24_at(strip, a, 15, body, 1, 1000);
-    let c = push_wide16_at(strip, b, 16, body, 2, 1000);
-    let d = push_u32_at(strip, c, 17, body, 13, 1000);
-    let e = push_u64_at(strip, d, 22, body, 9, 1000);
-    addresses(strip, e, body);
-}
-
-fn addresses(strip: &mut [u8], at: usize, body: &[u8])
-    requires at_in_bounds { at + 76 ≤ length strip.old }
-    requires body_len { length body.now ≡ 17 }
-{
-    let a = push_ipv4_at(strip, at, 18, body, 4, 1000);
-    let b = push_ipv6_at(strip, a, 19, body, 1, 16, 1000);
-    let c = push_ipv6_at(strip, b, 20, body, 8, 4, 1000);
-    push_bytes_at(strip, c, 21, 5, 12, 1000);
+    push_at::<U8>(strip, 10, body, 0);
+    push_bit_at(strip, 11, body, 16, 128);
+    push_low_bits_at(strip, 12, body, 16, 128);
+    push_at::<U16>(strip, 13, body, 15);
+    push_at::<U24>(strip, 14, body, 14);
+    push_metric24_at(strip, 15, body, 1);
+    push_at::<Wide16>(strip, 16, body, 2);
+    push_at::<U32>(strip, 17, body, 13);
+    push_at::<U64>(strip, 22, body, 9);
+    push_at::<Ipv4>(strip, 18, body, 4);
+    push_ipv6_at(strip, 19, body, 1, 16);
+    push_ipv6_at(strip, 20, body, 8, 4);
+    push_bytes_at(strip, 21, body, 5, 12);
 }
 
 // Metrics of 24 bits: the first has all bits, the next three lack one of a byte each. What is left of the strip stays 0.
-fn metrics(strip: &mut [u8], body: &[u8])
-    requires in_bounds { 70 ≤ length strip.old }
-    requires body_len { length body.now ≡ 8 }
+fn metrics(strip: &mut Writer, body: Part)
+    requires in_bounds { HasRoom strip.old 70 }
+    requires body_len { length body.bytes.now ≡ 8 }
 {
-    let a = push_metric24_at(strip, 0, 15, body, 1, 1000);
-    let b = push_metric24_at(strip, a, 15, body, 2, 1000);
-    let c = push_metric24_at(strip, b, 15, body, 3, 1000);
-    let d = push_metric24_at(strip, c, 15, body, 4, 1000);
-    push_metric24_at(strip, d, 15, body, 5, 1000);
+    push_metric24_at(strip, 15, body, 1);
+    push_metric24_at(strip, 15, body, 2);
+    push_metric24_at(strip, 15, body, 3);
+    push_metric24_at(strip, 15, body, 4);
+    push_metric24_at(strip, 15, body, 5);
 }
 
 // The end, and a place beyond it; kinds 0, 11 and 255; each kind's body cut by one byte.

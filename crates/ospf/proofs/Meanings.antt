@@ -1,7 +1,7 @@
 -- The code's step says what the definition's does; and how long an entry is that a step gives.
 use Prim.Native.Nat.{ℕ, ◌-◌, ◌≤◌, ◌<◌}
 use native.Mathlib.Omega.{arith}
-use mathlib.Core.Path.{◌≡◌, refl}
+use mathlib.Core.Path.{◌≡◌}
 use mathlib.Core.List.{List}
 use Rattle.format.specs.Strip as strip
 use Rattle.format.proofs.Steps.{steps}

@@ -11,7 +11,8 @@ ghost use Rattle.format.specs.Strip.{step_at};
 ghost use Rattle.format.specs.Checksum.{check, making, made_lsa};
 ghost use Rattle.format.specs.Trailer.{lls_of, auth_trailer_of, block_answer, block_strip};
 ghost use Rattle.format.specs.Packed.{word, packed, packed_newness, packed_comparison, packed_step, packed_check, packed_making, packed_block};
-ghost use Rattle.trailer.specs.Answers.{meaning, Small};
+ghost use Rattle.trailer.specs.Answers.{block_meaning, Small};
+ghost use Rattle.walk_answer.specs.Answers.{answer_meaning};
 ghost use Rattle.refusal.specs.Numbers.{number_of};
 
 use checksum::{check_checksum, make_checksum};
@@ -20,14 +21,14 @@ use refusal::Refusal;
 use strip_step::step_at;
 use tlv::{Prefix, compare_prefixes, prefix_to_ipv6};
 use trailer::{Block, push_auth_trailer, push_lls};
+use walk_answer::Answer;
 
 #[unsafe(no_mangle)]
 pub extern "C" fn ospf_lsa_headers(version: u8, data: &[u8], offset: u64, strip: &mut [u8]) -> u64
     ensures value { result ≡ packed (answer_of (headers_of version «data».now offset) (length strip.old)) }
     ensures strip_after { strip.new ≡ strip_of (headers_of version «data».now offset) strip.old }
 {
-    let a = walk::push_lsa_headers(version, data, offset, strip);
-    pack(a.number, a.length)
+    walk_word(walk::push_lsa_headers(version, data, offset, strip))
 }
 
 #[unsafe(no_mangle)]
@@ -41,8 +42,7 @@ pub extern "C" fn ospf_lsu_lsas(
     ensures value { result ≡ packed (answer_of (update_of version «data».now count offset) (length strip.old)) }
     ensures strip_after { strip.new ≡ strip_of (update_of version «data».now count offset) strip.old }
 {
-    let a = walk::push_lsu_lsas(version, data, count, offset, strip);
-    pack(a.number, a.length)
+    walk_word(walk::push_lsu_lsas(version, data, count, offset, strip))
 }
 
 #[unsafe(no_mangle)]
@@ -50,8 +50,7 @@ pub extern "C" fn ospf_lsa(version: u8, data: &[u8], offset: u64, strip: &mut [u
     ensures value { result ≡ packed (answer_of (lsa_of version «data».now offset) (length strip.old)) }
     ensures strip_after { strip.new ≡ strip_of (lsa_of version «data».now offset) strip.old }
 {
-    let a = walk::push_lsa(version, data, offset, strip);
-    pack(a.number, a.length)
+    walk_word(walk::push_lsa(version, data, offset, strip))
 }
 
 // Which of two LSAs is newer, by the headers at their fronts: 0 neither, 1 the first, 2 the second.
@@ -136,14 +135,24 @@ pub extern "C" fn ospf_auth_trailer(data: &[u8], offset: u64, strip: &mut [u8]) 
     block_word(push_auth_trailer(data, offset, strip))
 }
 
-fn block_word(answer: Block) -> u64
-    requires { Small answer }
-    ensures { result ≡ packed_block (meaning answer) }
+fn walk_word(answer: Result<Answer, Refusal>) -> u64
+    requires { (answer_meaning answer).size < 4294967296 }
+    ensures { result ≡ packed (answer_meaning answer) }
 {
     match answer {
-        Block::Absent => pack(0, 0),
-        Block::Found { strip, block } => block as u64 * 1099511627776 + pack(0, strip),
-        Block::Refused(number, needed) => pack(number, needed),
+        Ok(answer) => pack(0, answer.length),
+        Err(refusal) => pack(refusal.number(), refusal.needed()),
+    }
+}
+
+fn block_word(answer: Result<Option<Block>, Refusal>) -> u64
+    requires { Small answer }
+    ensures { result ≡ packed_block (block_meaning answer) }
+{
+    match answer {
+        Ok(Some(found)) => found.block as u64 * 1099511627776 + pack(0, found.strip),
+        Ok(None) => 0,
+        Err(refusal) => pack(refusal.number(), refusal.needed()),
     }
 }
 

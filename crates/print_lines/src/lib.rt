@@ -10,6 +10,7 @@ ghost use Rattle.walk_answer.specs.Answers.{answer_meaning};
 ghost use Rattle.print_lines.specs.Text.{fitting};
 
 use print_digits::{put_dotted, put_hex, put_place, put_spaced};
+use refusal::Refusal;
 use strip_put::Writer;
 use strip_step::{Entry, Field};
 use walk_answer::Answer;
@@ -32,7 +33,7 @@ pub fn entry_line(out: &mut [u8], entry: Entry) -> usize
 }
 
 // The first line.
-pub fn answer_line(out: &mut [u8], answer: Answer) -> usize
+pub fn answer_line(out: &mut [u8], answer: Result<Answer, Refusal>) -> usize
     ensures wrote { Wrote out.old 0 (fitting (length out.old) (first_line (answer_meaning answer))) out.new result }
     ensures upper_bound { (result ≤ length out.new) × (result ≡ length (take result out.new)) }
 {
@@ -44,19 +45,23 @@ pub fn answer_line(out: &mut [u8], answer: Answer) -> usize
     writer.at
 }
 
-fn put_answer(out: &mut Writer<'_>, answer: Answer)
+fn put_answer(out: &mut Writer<'_>, answer: Result<Answer, Refusal>)
     requires { HasRoom out.old line_room }
     ensures { Writes out.old (first_line (answer_meaning answer)) out.new }
 {
-    if answer.number == 0 {
-        out.put(b"ok");
-        put_spaced(out, answer.records as u64);
-        put_spaced(out, answer.tail as u64);
-    } else {
-        out.put(b"refused");
-        put_spaced(out, answer.number as u64);
+    match answer {
+        Ok(answer) => {
+            out.put(b"ok");
+            put_spaced(out, answer.records as u64);
+            put_spaced(out, answer.tail as u64);
+            put_spaced(out, answer.length as u64);
+        }
+        Err(refusal) => {
+            out.put(b"refused");
+            put_spaced(out, refusal.number() as u64);
+            put_spaced(out, refusal.needed() as u64);
+        }
     }
-    put_spaced(out, answer.length as u64);
     out.put_u8(b'\n');
 }
 

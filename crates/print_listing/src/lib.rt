@@ -7,11 +7,12 @@ ghost use Rattle.format.specs.Pieces.{lines_at, shown_part};
 ghost use Rattle.walk_answer.specs.Answers.{answer_meaning};
 
 use print_lines::{LINE, entry_line};
+use refusal::Refusal;
 use strip_reader::step_from;
 use walk_answer::Answer;
 
 // How many bytes the lines have, and the place of the strip where the next ones begin.
-#[derive(Clone, Copy)]
+#[derive(Clone, Copy, PartialEq, Eq, Debug)]
 pub struct Lines {
     pub length: usize,
     pub next: usize,
@@ -39,11 +40,11 @@ pub fn put_lines(out: &mut [u8], strip: &[u8], place: usize) -> Lines
 
 // The part of the strip buffer whose entries are printed: nothing where the answer is a refusal.
 #[tactic(auto, unfolding(format::specs::Pieces::shown_part))]
-pub fn shown_part(strip: &[u8], answer: Answer) -> &[u8]
+pub fn shown_part(strip: &[u8], answer: Result<Answer, Refusal>) -> &[u8]
     ensures { result.now ≡ shown_part (answer_meaning answer) strip.now }
 {
-    if answer.number != 0 {
-        return &[];
+    match answer {
+        Ok(answer) => &strip[..answer.length.min(strip.len())],
+        Err(_) => &[],
     }
-    &strip[..answer.length.min(strip.len())]
 }

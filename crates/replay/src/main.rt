@@ -53,28 +53,50 @@ fn replay_file(from: &mut impl Read, to: &mut impl Write) -> io::Result<()> {
 // The number of calls, a line for each walk and block with the calls of number 0 to 5, and whether the file ends with a whole call.
 fn print_calls(to: &mut impl Write, file: &[u8]) -> io::Result<()> {
     let whole = whole_calls(file, ROOM);
-    writeln!(to, "calls {}", whole.calls)?;
-    for (walk, name) in (0u8..).zip(["headers", "updates", "lsas", "lls", "trailers"]) {
-        write!(to, "{name}")?;
-        for n in 0..=5 {
-            number(to, count_calls(file, ROOM, walk, n) as u64)?;
-        }
+    word(to, b"calls")?;
+    number(to, whole.calls as u64)?;
+    line(to)?;
+    word(to, b"headers")?;
+    print_numbers(to, file, 0)?;
+    word(to, b"updates")?;
+    print_numbers(to, file, 1)?;
+    word(to, b"lsas")?;
+    print_numbers(to, file, 2)?;
+    word(to, b"lls")?;
+    print_numbers(to, file, 3)?;
+    word(to, b"trailers")?;
+    print_numbers(to, file, 4)?;
+    if whole.end == file.len() {
+        word(to, b"whole\n")?;
+    } else {
+        word(to, b"damaged at")?;
+        number(to, whole.end as u64)?;
         line(to)?;
     }
-    if whole.end == file.len() {
-        word(to, b"whole\n")
-    } else {
-        writeln!(to, "damaged at {}", whole.end)
-    }
+    Ok(())
+}
+
+fn print_numbers(to: &mut impl Write, file: &[u8], walk: u8) -> io::Result<()> {
+    number(to, count_calls(file, ROOM, walk, 0) as u64)?;
+    number(to, count_calls(file, ROOM, walk, 1) as u64)?;
+    number(to, count_calls(file, ROOM, walk, 2) as u64)?;
+    number(to, count_calls(file, ROOM, walk, 3) as u64)?;
+    number(to, count_calls(file, ROOM, walk, 4) as u64)?;
+    number(to, count_calls(file, ROOM, walk, 5) as u64)?;
+    line(to)
 }
 
 // How many calls differ, and the index of the first of them.
 fn print_differences(to: &mut impl Write, file: &[u8]) -> io::Result<()> {
     let mut strip = strip_buffer();
     let different = count_different(file, &mut strip);
-    writeln!(to, "different {different}")?;
+    word(to, b"different")?;
+    number(to, different as u64)?;
+    line(to)?;
     if different != 0 {
-        writeln!(to, "first {}", first_different(file, &mut strip))?;
+        word(to, b"first")?;
+        number(to, first_different(file, &mut strip) as u64)?;
+        line(to)?;
     }
     Ok(())
 }

@@ -11,17 +11,16 @@ use Rattle.format.specs.Strip.{encode}
 use Rattle.format.specs.Walks.{answer_of, strip_of}
 use Rattle.format.specs.Trailer.{Block, block_answer, block_strip}
 use Rattle.format.specs.Trailer.Block.{refused, absent, found}
-use Rattle.trailer.specs.Answers.{answered}
 use Rattle.replay_agreement.specs.Agree.{as_walk}
 use Rattle.replay_agreement.specs.Blocks.{stored}
 
-pub as_answer : (x : Block) (room : ℕ) → stored (answered (block_answer x room)) ≡ answer_of (as_walk x) room
+pub as_answer : (x : Block) (room : ℕ) → stored (block_answer x room) ≡ answer_of (as_walk x) room
 unfolding block_answer answer_of encode
 as_answer (refused n) room = refl
 as_answer absent room = rw (le-ltb room 0 (omega arith))
 as_answer (found es n) room = go (ltb room (length (encode es))) refl
   where
-    go : (t : Bool) → ltb room (length (encode es)) ≡ t → stored (answered (block_answer (found es n) room)) ≡ answer_of (as_walk (found es n)) room
+    go : (t : Bool) → ltb room (length (encode es)) ≡ t → stored (block_answer (found es n) room) ≡ answer_of (as_walk (found es n)) room
     go true q = rw q
     go false q = rw q
 

@@ -4,12 +4,14 @@
 
 ghost use Rattle.std.specs.Prelude.{◌≡◌, ◌≤◌, length};
 ghost use Rattle.format.specs.Walks.{answer_of, strip_of};
-ghost use Rattle.walk_answer.specs.Answers.{answered};
+ghost use Rattle.trailer.specs.Answers.{block_meaning};
+ghost use Rattle.walk_answer.specs.Answers.{answer_meaning};
 ghost use Rattle.replay_call.specs.Stored.{room_at};
 ghost use Rattle.replay_expected.specs.Expected.{lent};
 ghost use Rattle.replay_agreement.specs.Agree.{agrees_at, call_of, left_at, outcome_at};
 ghost use Rattle.replay_agreement.specs.Blocks.{stored};
 
+use refusal::Refusal;
 use replay_call::{CALL, Call};
 use replay_expected::{FILL, is_answer, is_buffer};
 use trailer::{Block, push_auth_trailer, push_lls};
@@ -50,8 +52,8 @@ fn call_by_number(
     count: u32,
     offset: u64,
     strip: &mut [u8],
-) -> Answer
-    ensures value { result ≡ answered (answer_of (call_of version number «data».now count offset) (length strip.old)) }
+) -> Result<Answer, Refusal>
+    ensures value { answer_meaning result ≡ answer_of (call_of version number «data».now count offset) (length strip.old) }
     ensures strip_after { strip.new ≡ strip_of (call_of version number «data».now count offset) strip.old }
 {
     match number {
@@ -62,27 +64,13 @@ fn call_by_number(
 }
 
 // A block's answer as it is stored: its length in the place of the records.
-fn stored_answer(answer: Block) -> Answer
-    ensures { result ≡ answered (stored answer) }
+fn stored_answer(answer: Result<Option<Block>, Refusal>) -> Result<Answer, Refusal>
+    ensures { answer_meaning result ≡ stored (block_meaning answer) }
 {
-    match answer {
-        Block::Absent => Answer {
-            number: 0,
-            length: 0,
-            records: 0,
-            tail: 0,
-        },
-        Block::Found { strip, block } => Answer {
-            number: 0,
-            length: strip,
-            records: block,
-            tail: 0,
-        },
-        Block::Refused(number, needed) => Answer {
-            number,
-            length: needed,
-            records: 0,
-            tail: 0,
-        },
-    }
+    let found = answer?.unwrap_or(Block { strip: 0, block: 0 });
+    Ok(Answer {
+        length: found.strip,
+        records: found.block,
+        tail: 0,
+    })
 }

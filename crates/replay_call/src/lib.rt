@@ -19,7 +19,7 @@ const WALKS: u8 = 4;
 const NUMBERS: u8 = 5;
 
 // A call that stands whole at a place of a file.
-#[derive(Clone, Copy)]
+#[derive(Clone, Copy, PartialEq, Eq, Debug)]
 pub struct Call<'a> {
     pub file: &'a [u8],
     pub at: usize,

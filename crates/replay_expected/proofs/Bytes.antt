@@ -1,10 +1,12 @@
 -- How a buffer is compared with what is stored of it.
-use Prim.Native.Nat.{ℕ, ◌+◌, ◌-◌}
+use Prim.Native.Nat.{ℕ, ◌+◌, ◌-◌, ◌<◌}
+use native.Mathlib.Numerals.{add-one}
 use native.Mathlib.Omega.{arith}
-use mathlib.Core.Path.{◌≡◌}
+use mathlib.Core.Path.{◌≡◌, ap, ◌∙◌}
 use mathlib.Core.Bool.{Bool, true, false}
-use mathlib.Core.List.{List, ◌++◌}
-use lib.ListN.{length, take, drop}
+use mathlib.Core.List.{List, [], ◌∷◌, ◌++◌}
+use lib.ListN.{length, take, drop, set, replicate-append-replicate}
+use lib.Seq.{take-suc-set}
 use lib.Dec.{eqb}
 use lib.Pointwise.{pointwise}
 use denote.Bor.{Bor}
@@ -25,3 +27,10 @@ prefix_then s x None front rest = rw (same_parts, ← pointwise_same (take (leng
 prefix_then s x {r} (Some p) front rest =
     let n : length s - length x ≡ length p.now = omega (arith, front.2) in
     rw (same_parts, ← pointwise_same (take (length x) s) x, front.0, ← front.1, n) (same_told r p.now (lent (length p.now)) rest)
+
+-- A buffer that is filled up to a place, filled one byte more.
+pub filled_next : (s : List ℕ) (i : ℕ) → i < length s → take i s ≡ lent i → take (i + 1) (set s i 165) ≡ lent (i + 1)
+filled_next s i h e =
+    let r : lent i ++ (165 ∷ []) ≡ lent (i + 1) = replicate-append-replicate {A = ℕ} i 1 165 in
+    let t : take (i + 1) (set s i 165) ≡ take i s ++ (165 ∷ []) = rw (add-one i) (take-suc-set s i 165 h) in
+    t ∙ (ap (λ (l : List ℕ). l ++ (165 ∷ [])) e ∙ r)

@@ -6,7 +6,7 @@ use native.Mathlib.Nat.{suc-add}
 use native.Mathlib.Numerals.{add-one}
 use mathlib.Core.Path.{◌≡◌, refl, sym, ap, ◌∙◌}
 use mathlib.Core.Bool.{Bool, true, false, cond}
-use mathlib.Core.List.{List, [], ◌∷◌, map}
+use mathlib.Core.List.{List, [], ◌∷◌, ◌++◌, map}
 use mathlib.Core.Option.{some}
 use lib.ListN.{length, get_or, take, drop, drop_of_length-le}
 use lib.Seq.{drop-cons}
@@ -88,6 +88,12 @@ module _ (most : ℕ) (b : List ℕ) {i s : Calls} (gives : i ≡ s) (begun : le
   pub calling_end : (xs : List Call) (t u : Calls) {r : Item Call} → Yields (YieldsFirstBy place_of left_of) i xs t → r ≡ None → YieldsFirstBy place_of left_of t r u
       → length xs ≡ length (calls most b)
   calling_end xs t u {r} y e g = rw length-map at (YieldsList-end all xs t y r u e g).1
+
+-- One call more is replayed.
+replayed_last : (b : List ℕ) (ss : List Span) (s : Span) (before : List ℕ) → replayed b (ss ++ (s ∷ [])) before ≡ left_at b s.at (replayed b ss before)
+unfolding replayed
+replayed_last b [] s before = refl
+replayed_last b (x ∷ ss) s before = replayed_last b ss s (left_at b x.at before)
 
 pub count_most : (f : ℕ → Bool) (ss : List Span) → count_of f ss ≤ length ss
 unfolding count_of

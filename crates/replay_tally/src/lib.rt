@@ -10,7 +10,7 @@ use replay_agreement::agrees;
 use replay_call::Calls;
 
 // How many calls a file has, and where the last of them ends: at the file's end, unless the file is damaged.
-#[derive(Clone, Copy)]
+#[derive(Clone, Copy, PartialEq, Eq, Debug)]
 pub struct Whole {
     pub calls: usize,
     pub end: usize,

@@ -39,26 +39,6 @@ impl TryFrom<u8> for Kind {
     }
 }
 
-pub const OPEN: u8 = 1;
-
-pub const CLOSE: u8 = 2;
-
-pub const U8: u8 = 3;
-
-pub const U16: u8 = 4;
-
-pub const U32: u8 = 5;
-
-pub const IPV4: u8 = 6;
-
-pub const IPV6: u8 = 7;
-
-pub const BYTES: u8 = 8;
-
-pub const UNREACHABLE: u8 = 9;
-
-pub const U64: u8 = 10;
-
 // How many bytes a kind's body has: the id, start and end of every kind but a close, then the value.
 pub const OPEN_BODY: usize = 9;
 

@@ -1,300 +1,188 @@
-// Entries into a strip. A field's range is the n bytes from p on of a body whose first byte is at the place o of the packet.
-// A function whose name ends in `_at` takes the field's value from there too; so a field's range and its value cannot part.
-#![tactic(auto)]
+// Entries into a strip. A field's range is the n bytes from p on of a part of the packet. `push_at` takes the field's value from
+// there too; so a field's range and its value cannot part.
+#![tactic(auto, unfolding(format::specs::Strip::code))]
 
-ghost use Rattle.std.specs.Prelude.{◌+◌, ◌≤◌, ◌<◌, length};
-ghost use Rattle.format.specs.Strip.{Entry, code, u8_at, bit_at, low_bits_at, u16_at, u24_at, metric24_at, wide16_at, u32_at, u64_at, ip4_at, bytes_at};
+ghost use Rattle.std.specs.Prelude.{◌+◌, ◌≤◌, ◌<◌, ◌∷◌, length};
+ghost use Rattle.format.specs.Strip.{Entry, head, code, bit_at, low_bits_at, metric24_at, bytes_at};
 ghost use Rattle.format.specs.Prefix.{ip6_at};
-ghost use Rattle.format.specs.Wrote.{Wrote};
+ghost use Rattle.strip_ids.specs.Kind.{number_of};
+ghost use Rattle.strip_put.specs.Writer.{HasRoom, Writes};
+ghost use Rattle.strip_push.specs.Values.{entry_of};
 
-use strip_ids::kind::{BYTES, CLOSE, IPV4, IPV6, OPEN, U8, U16, U32, U64, UNREACHABLE};
-use strip_put::{put_head, put_head_at, put_u8, put_u16, put_u32, put_u64};
+use field::Field;
+use std::ops::Range;
+use strip_ids::kind::Kind;
+use strip_put::{Part, Writer};
 use tlv::prefix_to_ipv6;
-use util::{
-    Metric, read_be_u16, read_be_u24, read_be_u32, read_be_u64, read_ipv4_addr, read_metric24,
-};
+use util::{read_be_u64, read_metric24};
 
+pub mod field;
 pub mod measure;
 
-pub fn begin_container(strip: &mut [u8], at: usize, id: u8, start: u32, end: u32) -> usize
-    requires { at + 10 ≤ length strip.old }
-    ensures { Wrote strip.old at (code (Entry.opens id start end)) strip.new result }
-{
-    put_head(strip, at, OPEN, id, start, end)
+// What a field says. An IPv4 address is the number of its bytes, an IPv6 address the numbers of its two halves.
+#[derive(Clone, Copy, PartialEq, Eq, Debug)]
+pub enum FieldValue {
+    U8(u8),
+    U16(u16),
+    U32(u32),
+    U64(u64),
+    Ipv4(u32),
+    Ipv6(u64, u64),
+    Bytes,
+    Unreachable,
 }
 
-// The same of the n bytes from p on.
-pub fn begin_container_at(strip: &mut [u8], at: usize, id: u8, p: usize, n: usize, o: u32) -> usize
-    requires at_in_bounds { at + 10 ≤ length strip.old }
-    requires n_bound { o + (p + n) < 4294967296 }
-    ensures { Wrote strip.old at (code (Entry.opens id (o + p) (o + p + n))) strip.new result }
+// An entry up to its value.
+#[inline(always)]
+fn push_head(strip: &mut Writer, kind: Kind, id: u8, range: Range<u32>)
+    requires { HasRoom strip.old 10 }
+    ensures { Writes strip.old (number_of kind ∷ head id range.start range.end) strip.new }
 {
-    put_head_at(strip, at, OPEN, id, p, n, o)
+    strip.put_u8(kind as u8);
+    strip.put_u8(id);
+    strip.put_u32(range.start);
+    strip.put_u32(range.end);
 }
 
-pub fn end_container(strip: &mut [u8], at: usize) -> usize
-    requires { at < length strip.old }
-    ensures { Wrote strip.old at (code Entry.closes) strip.new result }
+#[inline(always)]
+pub fn begin_container(strip: &mut Writer, id: u8, range: Range<u32>)
+    requires { HasRoom strip.old 10 }
+    ensures { Writes strip.old (code (Entry.opens id range.start range.end)) strip.new }
 {
-    put_u8(strip, at, CLOSE)
+    let mut out = Writer {
+        buffer: &mut *strip.buffer,
+        at: strip.at,
+    };
+    push_head(&mut out, Kind::Open, id, range);
+    strip.at = out.at;
 }
 
-pub fn push_u8(strip: &mut [u8], at: usize, id: u8, p: usize, n: usize, o: u32, value: u8) -> usize
-    requires at_in_bounds { at + 11 ≤ length strip.old }
-    requires n_bound { o + (p + n) < 4294967296 }
-    ensures { Wrote strip.old at (code (Entry.u8 id (o + p) (o + p + n) value)) strip.new result }
+pub fn end_container(strip: &mut Writer)
+    requires { HasRoom strip.old 1 }
+    ensures { Writes strip.old (code Entry.closes) strip.new }
 {
-    let a = put_head_at(strip, at, U8, id, p, n, o);
-    put_u8(strip, a, value)
+    strip.put_u8(Kind::Close as u8);
 }
 
-pub fn push_u16(
-    strip: &mut [u8],
-    at: usize,
-    id: u8,
-    p: usize,
-    n: usize,
-    o: u32,
-    value: u16,
-) -> usize
-    requires at_in_bounds { at + 12 ≤ length strip.old }
-    requires n_bound { o + (p + n) < 4294967296 }
-    ensures { Wrote strip.old at (code (Entry.u16 id (o + p) (o + p + n) value)) strip.new result }
+// Inlined, so that the compiler sees which value it is; and by a writer of its own, since of one that was handed in the compiler
+// reads buffer and place again after every byte.
+#[inline(always)]
+pub fn push_field(strip: &mut Writer, id: u8, range: Range<u32>, value: FieldValue)
+    requires { HasRoom strip.old (length (code (entry_of value id range.start range.end))) }
+    ensures { Writes strip.old (code (entry_of value id range.start range.end)) strip.new }
 {
-    let a = put_head_at(strip, at, U16, id, p, n, o);
-    put_u16(strip, a, value)
+    let mut out = Writer {
+        buffer: &mut *strip.buffer,
+        at: strip.at,
+    };
+    push_value(&mut out, id, range, value);
+    strip.at = out.at;
 }
 
-pub fn push_u32(
-    strip: &mut [u8],
-    at: usize,
-    id: u8,
-    p: usize,
-    n: usize,
-    o: u32,
-    value: u32,
-) -> usize
-    requires at_in_bounds { at + 14 ≤ length strip.old }
-    requires n_bound { o + (p + n) < 4294967296 }
-    ensures { Wrote strip.old at (code (Entry.u32 id (o + p) (o + p + n) value)) strip.new result }
+#[inline(always)]
+fn push_value(strip: &mut Writer, id: u8, range: Range<u32>, value: FieldValue)
+    requires { HasRoom strip.old (length (code (entry_of value id range.start range.end))) }
+    ensures { Writes strip.old (code (entry_of value id range.start range.end)) strip.new }
 {
-    let a = put_head_at(strip, at, U32, id, p, n, o);
-    put_u32(strip, a, value)
-}
-
-pub fn push_u64(
-    strip: &mut [u8],
-    at: usize,
-    id: u8,
-    p: usize,
-    n: usize,
-    o: u32,
-    value: u64,
-) -> usize
-    requires at_in_bounds { at + 18 ≤ length strip.old }
-    requires n_bound { o + (p + n) < 4294967296 }
-    ensures { Wrote strip.old at (code (Entry.u64 id (o + p) (o + p + n) value)) strip.new result }
-{
-    let a = put_head_at(strip, at, U64, id, p, n, o);
-    put_u64(strip, a, value)
-}
-
-pub fn push_ipv4(
-    strip: &mut [u8],
-    at: usize,
-    id: u8,
-    p: usize,
-    n: usize,
-    o: u32,
-    address: u32,
-) -> usize
-    requires at_in_bounds { at + 14 ≤ length strip.old }
-    requires n_bound { o + (p + n) < 4294967296 }
-    ensures { Wrote strip.old at (code (Entry.ip4 id (o + p) (o + p + n) address)) strip.new result }
-{
-    let a = put_head_at(strip, at, IPV4, id, p, n, o);
-    put_u32(strip, a, address)
-}
-
-pub fn push_ipv6(
-    strip: &mut [u8],
-    at: usize,
-    id: u8,
-    p: usize,
-    n: usize,
-    o: u32,
-    high: u64,
-    low: u64,
-) -> usize
-    requires at_in_bounds { at + 26 ≤ length strip.old }
-    requires n_bound { o + (p + n) < 4294967296 }
-    ensures { Wrote strip.old at (code (Entry.ip6 id (o + p) (o + p + n) high low)) strip.new result }
-{
-    let a = put_head_at(strip, at, IPV6, id, p, n, o);
-    let b = put_u64(strip, a, high);
-    put_u64(strip, b, low)
-}
-
-pub fn push_unreachable(strip: &mut [u8], at: usize, id: u8, p: usize, n: usize, o: u32) -> usize
-    requires at_in_bounds { at + 10 ≤ length strip.old }
-    requires n_bound { o + (p + n) < 4294967296 }
-    ensures { Wrote strip.old at (code (Entry.unreachable id (o + p) (o + p + n))) strip.new result }
-{
-    put_head_at(strip, at, UNREACHABLE, id, p, n, o)
-}
-
-pub fn push_bytes(strip: &mut [u8], at: usize, id: u8, start: u32, end: u32) -> usize
-    requires { at + 10 ≤ length strip.old }
-    ensures { Wrote strip.old at (code (Entry.bytes id start end)) strip.new result }
-{
-    put_head(strip, at, BYTES, id, start, end)
-}
-
-pub fn push_u8_at(strip: &mut [u8], at: usize, id: u8, body: &[u8], p: usize, o: u32) -> usize
-    requires at_in_bounds { at + 11 ≤ length strip.old }
-    requires p_in_bounds { p + 1 ≤ length body.now }
-    requires body_bound { o + length body.now < 4294967296 }
-    ensures { Wrote strip.old at (code (u8_at id body.now o p)) strip.new result }
-{
-    push_u8(strip, at, id, p, 1, o, body[p])
-}
-
-// The bit of a byte that has this weight.
-pub fn push_bit_at(
-    strip: &mut [u8],
-    at: usize,
-    id: u8,
-    body: &[u8],
-    p: usize,
-    o: u32,
-    weight: u8,
-) -> usize
-    requires at_in_bounds { at + 11 ≤ length strip.old }
-    requires p_in_bounds { p + 1 ≤ length body.now }
-    requires body_bound { o + length body.now < 4294967296 }
-    requires weight_nonzero { 0 < weight }
-    ensures { Wrote strip.old at (code (bit_at id body.now o p weight)) strip.new result }
-{
-    push_u8(strip, at, id, p, 1, o, body[p] / weight % 2)
-}
-
-// The bits of a byte below this weight.
-pub fn push_low_bits_at(
-    strip: &mut [u8],
-    at: usize,
-    id: u8,
-    body: &[u8],
-    p: usize,
-    o: u32,
-    weight: u8,
-) -> usize
-    requires at_in_bounds { at + 11 ≤ length strip.old }
-    requires p_in_bounds { p + 1 ≤ length body.now }
-    requires body_bound { o + length body.now < 4294967296 }
-    requires weight_nonzero { 0 < weight }
-    ensures { Wrote strip.old at (code (low_bits_at id body.now o p weight)) strip.new result }
-{
-    push_u8(strip, at, id, p, 1, o, body[p] % weight)
-}
-
-pub fn push_u16_at(strip: &mut [u8], at: usize, id: u8, body: &[u8], p: usize, o: u32) -> usize
-    requires at_in_bounds { at + 12 ≤ length strip.old }
-    requires p_in_bounds { p + 2 ≤ length body.now }
-    requires body_bound { o + length body.now < 4294967296 }
-    ensures { Wrote strip.old at (code (u16_at id body.now o p)) strip.new result }
-{
-    push_u16(strip, at, id, p, 2, o, read_be_u16(body, p))
-}
-
-pub fn push_u24_at(strip: &mut [u8], at: usize, id: u8, body: &[u8], p: usize, o: u32) -> usize
-    requires at_in_bounds { at + 14 ≤ length strip.old }
-    requires p_in_bounds { p + 3 ≤ length body.now }
-    requires body_bound { o + length body.now < 4294967296 }
-    ensures { Wrote strip.old at (code (u24_at id body.now o p)) strip.new result }
-{
-    push_u32(strip, at, id, p, 3, o, read_be_u24(body, p))
-}
-
-// A metric of 24 bits: its cost, or that it is unreachable.
-pub fn push_metric24_at(strip: &mut [u8], at: usize, id: u8, body: &[u8], p: usize, o: u32) -> usize
-    requires p_in_bounds { at + length (code (metric24_at id body.now o p)) ≤ length strip.old }
-    requires le_p { 1 ≤ p }
-    requires p_in_bounds_2 { p + 3 ≤ length body.now }
-    requires body_bound { o + length body.now < 4294967296 }
-    ensures { Wrote strip.old at (code (metric24_at id body.now o p)) strip.new result }
-{
-    let metric = read_metric24(body, p);
-    match metric {
-        Metric::Cost(cost) => push_u32(strip, at, id, p, 3, o, cost),
-        Metric::Unreachable => push_unreachable(strip, at, id, p, 3, o),
+    match value {
+        FieldValue::U8(x) => {
+            push_head(strip, Kind::U8, id, range);
+            strip.put_u8(x);
+        }
+        FieldValue::U16(x) => {
+            push_head(strip, Kind::U16, id, range);
+            strip.put_u16(x);
+        }
+        FieldValue::U32(x) => {
+            push_head(strip, Kind::U32, id, range);
+            strip.put_u32(x);
+        }
+        FieldValue::U64(x) => {
+            push_head(strip, Kind::U64, id, range);
+            strip.put_u64(x);
+        }
+        FieldValue::Ipv4(address) => {
+            push_head(strip, Kind::Ipv4, id, range);
+            strip.put_u32(address);
+        }
+        FieldValue::Ipv6(high, low) => {
+            push_head(strip, Kind::Ipv6, id, range);
+            strip.put_u64(high);
+            strip.put_u64(low);
+        }
+        FieldValue::Bytes => push_head(strip, Kind::Bytes, id, range),
+        FieldValue::Unreachable => push_head(strip, Kind::Unreachable, id, range),
     }
 }
 
-// A number of 16 bits that is shown as one of 32.
-pub fn push_wide16_at(strip: &mut [u8], at: usize, id: u8, body: &[u8], p: usize, o: u32) -> usize
-    requires at_in_bounds { at + 14 ≤ length strip.old }
-    requires p_in_bounds { p + 2 ≤ length body.now }
-    requires body_bound { o + length body.now < 4294967296 }
-    ensures { Wrote strip.old at (code (wide16_at id body.now o p)) strip.new result }
+// The field at p of a body.
+#[inline(always)]
+pub fn push_at<F: Field>(strip: &mut Writer, id: u8, body: Part, p: usize)
+    requires room { HasRoom strip.old (length (code (F.entry id body.bytes.now body.offset p))) }
+    requires in_bounds { p + F.SIZE ≤ length body.bytes.now }
+    ensures { Writes strip.old (code (F.entry id body.entry.bytes.now body.entry.offset p)) strip.new }
 {
-    push_u32(strip, at, id, p, 2, o, read_be_u16(body, p) as u32)
+    push_field(strip, id, body.range(p, F::SIZE), F::read(body.bytes, p));
 }
 
-pub fn push_u32_at(strip: &mut [u8], at: usize, id: u8, body: &[u8], p: usize, o: u32) -> usize
-    requires at_in_bounds { at + 14 ≤ length strip.old }
-    requires p_in_bounds { p + 4 ≤ length body.now }
-    requires body_bound { o + length body.now < 4294967296 }
-    ensures { Wrote strip.old at (code (u32_at id body.now o p)) strip.new result }
+// The bit of a byte that has this weight.
+#[inline(always)]
+pub fn push_bit_at(strip: &mut Writer, id: u8, body: Part, p: usize, weight: u8)
+    requires room { HasRoom strip.old 11 }
+    requires in_bounds { p + 1 ≤ length body.bytes.now }
+    requires weight_nonzero { 0 < weight }
+    ensures { Writes strip.old (code (bit_at id body.entry.bytes.now body.entry.offset p weight)) strip.new }
 {
-    push_u32(strip, at, id, p, 4, o, read_be_u32(body, p))
+    let bit = body.bytes[p] / weight % 2;
+    push_field(strip, id, body.range(p, 1), FieldValue::U8(bit));
 }
 
-pub fn push_u64_at(strip: &mut [u8], at: usize, id: u8, body: &[u8], p: usize, o: u32) -> usize
-    requires at_in_bounds { at + 18 ≤ length strip.old }
-    requires p_in_bounds { p + 8 ≤ length body.now }
-    requires body_bound { o + length body.now < 4294967296 }
-    ensures { Wrote strip.old at (code (u64_at id body.now o p)) strip.new result }
+// The bits of a byte below this weight.
+#[inline(always)]
+pub fn push_low_bits_at(strip: &mut Writer, id: u8, body: Part, p: usize, weight: u8)
+    requires room { HasRoom strip.old 11 }
+    requires in_bounds { p + 1 ≤ length body.bytes.now }
+    requires weight_nonzero { 0 < weight }
+    ensures { Writes strip.old (code (low_bits_at id body.entry.bytes.now body.entry.offset p weight)) strip.new }
 {
-    push_u64(strip, at, id, p, 8, o, read_be_u64(body, p))
+    let bits = body.bytes[p] % weight;
+    push_field(strip, id, body.range(p, 1), FieldValue::U8(bits));
 }
 
-pub fn push_ipv4_at(strip: &mut [u8], at: usize, id: u8, body: &[u8], p: usize, o: u32) -> usize
-    requires at_in_bounds { at + 14 ≤ length strip.old }
-    requires p_in_bounds { p + 4 ≤ length body.now }
-    requires body_bound { o + length body.now < 4294967296 }
-    ensures { Wrote strip.old at (code (ip4_at id body.now o p)) strip.new result }
+// A metric of 24 bits: its cost, or that it is unreachable.
+#[inline(always)]
+pub fn push_metric24_at(strip: &mut Writer, id: u8, body: Part, p: usize)
+    requires room { HasRoom strip.old (length (code (metric24_at id body.bytes.now body.offset p))) }
+    requires le_p { 1 ≤ p }
+    requires in_bounds { p + 3 ≤ length body.bytes.now }
+    ensures { Writes strip.old (code (metric24_at id body.entry.bytes.now body.entry.offset p)) strip.new }
 {
-    push_ipv4(strip, at, id, p, 4, o, read_ipv4_addr(body, p))
+    let value = match read_metric24(body.bytes, p) {
+        Some(cost) => FieldValue::U32(cost),
+        None => FieldValue::Unreachable,
+    };
+    push_field(strip, id, body.range(p, 3), value);
 }
 
 // The address of a prefix of n octets.
-pub fn push_ipv6_at(
-    strip: &mut [u8],
-    at: usize,
-    id: u8,
-    body: &[u8],
-    p: usize,
-    n: usize,
-    o: u32,
-) -> usize
-    requires at_in_bounds { at + 26 ≤ length strip.old }
-    requires n_in_bounds { p + n ≤ length body.now }
+#[inline(always)]
+pub fn push_ipv6_at(strip: &mut Writer, id: u8, body: Part, p: usize, n: usize)
+    requires room { HasRoom strip.old 26 }
+    requires in_bounds { p + n ≤ length body.bytes.now }
     requires n_bound { n ≤ 16 }
-    requires body_bound { o + length body.now < 4294967296 }
-    ensures { Wrote strip.old at (code (ip6_at id body.now o p n)) strip.new result }
+    ensures { Writes strip.old (code (ip6_at id body.entry.bytes.now body.entry.offset p n)) strip.new }
 {
-    let q = p + n;
-    let addr = prefix_to_ipv6(&body[p..q]);
-    let high = read_be_u64(&addr, 0);
-    let low = read_be_u64(&addr, 8);
-    push_ipv6(strip, at, id, p, n, o, high, low)
+    let address = prefix_to_ipv6(&body.bytes[p..p + n]);
+    let value = FieldValue::Ipv6(read_be_u64(&address, 0), read_be_u64(&address, 8));
+    push_field(strip, id, body.range(p, n), value);
 }
 
 // The n bytes from p on, by their range alone.
-pub fn push_bytes_at(strip: &mut [u8], at: usize, id: u8, p: usize, n: usize, o: u32) -> usize
-    requires at_in_bounds { at + 10 ≤ length strip.old }
-    requires n_bound { o + (p + n) < 4294967296 }
-    ensures { Wrote strip.old at (code (bytes_at id o p n)) strip.new result }
+#[inline(always)]
+pub fn push_bytes_at(strip: &mut Writer, id: u8, body: Part, p: usize, n: usize)
+    requires room { HasRoom strip.old 10 }
+    requires in_bounds { p + n ≤ length body.bytes.now }
+    ensures { Writes strip.old (code (bytes_at id body.entry.offset p n)) strip.new }
 {
-    put_head_at(strip, at, BYTES, id, p, n, o)
+    push_field(strip, id, body.range(p, n), FieldValue::Bytes);
 }

@@ -3,7 +3,7 @@ ghost use Rattle.std.specs.Prelude.{◌≡◌, ℕ, ◌+◌, ◌≤◌, length};
 ghost use Rattle.format.specs.Strip.{code, metric24_at};
 
 use strip_ids::kind::{U32_LENGTH, UNREACHABLE_LENGTH};
-use util::{Metric, read_metric24};
+use util::read_metric24;
 
 pub fn measure_metric24(body: &[u8], p: usize) -> usize
     requires le_p { 1 ≤ p }
@@ -11,9 +11,8 @@ pub fn measure_metric24(body: &[u8], p: usize) -> usize
     ensures by_index { (i o : ℕ) → result ≡ length (code (metric24_at i body.now o p)) }
     ensures upper_bound { result ≤ 14 }
 {
-    let metric = read_metric24(body, p);
-    match metric {
-        Metric::Cost(_) => U32_LENGTH,
-        Metric::Unreachable => UNREACHABLE_LENGTH,
+    match read_metric24(body, p) {
+        Some(_) => U32_LENGTH,
+        None => UNREACHABLE_LENGTH,
     }
 }

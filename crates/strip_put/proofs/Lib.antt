@@ -1,3 +1,3 @@
+pub mod Laws
 pub mod Sets
-pub mod Writes
-mod SwapLaws
+pub mod SwapLaws

@@ -1,12 +1,14 @@
--- The bytes of a reversed number, least significant first, are those of the number, most significant first.
-use Prim.Native.Nat.{ℕ, ◌+◌, ◌*◌, ◌/◌, ◌%◌, ◌<◌}
+-- The bytes of a reversed number, least significant first, are those of the number, most significant first. So a number can be
+-- stored in one step on a machine that stores the least significant byte first.
+use Prim.Native.Nat.{ℕ, zero, suc, ◌+◌, ◌*◌, ◌/◌, ◌%◌, ◌<◌}
 use native.Mathlib.Omega.{arith}
-use mathlib.Core.Path.{◌≡◌, subst}
-use mathlib.Core.List.{List, ◌++◌}
-use Rattle.format.specs.Bytes.{be16, be32}
-use Rattle.format.specs.Wrote.{Wrote}
-use Rattle.strip_put.specs.Swap.{le16, le32, le64}
-use Rattle.util.specs.Swap.{swap16, swap32, swap64}
+use mathlib.Core.Path.{◌≡◌, refl}
+use lib.ListN.{get_or}
+use mathlib.Core.List.{List, [], ◌∷◌, ◌++◌}
+use Rattle.format.specs.Bytes.{be16, be32, be64}
+use Rattle.std.specs.Int.{w16, w32, w64, to_le_bytes, swap_bytes}
+use Rattle.std.proofs.lemmas.Nat.{le_bytes_2, le_bytes_4, le_bytes_8}
+use Rattle.strip_put.specs.Swap.{swap16, swap32, swap64, le16, le32, le64}
 
 -- the parts of a number made of two, of 16 and of 32 bits
 low16 : (a b : ℕ) → b < 65536 → (a * 65536 + b) % 65536 ≡ b
@@ -81,6 +83,35 @@ as_pair o p n = omega arith
 pub swapped_range : (o p n : ℕ) → o + (p + n) < 4294967296 → le64 (swap64 (o * 4294967297 + (p * 4294967297 + n))) ≡ be32 (o + p) ++ be32 (o + p + n)
 swapped_range o p n h = rw (as_pair o p n) (swapped_pair (o + p) (o + p + n) (omega arith) (omega arith))
 
--- what is written, by another name
-pub written_as : {before after : List ℕ} {at next : ℕ} {xs ys : List ℕ} → xs ≡ ys → Wrote before at xs after next → Wrote before at ys after next
-written_as {before} {after} {at} {next} e w = subst (λ (bs : List ℕ). Wrote before at bs after next) e w
+-- The same in the library's words.
+small_2 : {a b : ℕ} → a < 256 → b < 256 → (i : ℕ) → get_or (a ∷ b ∷ []) i 0 < 256
+small_2 p q zero = p
+small_2 p q (suc zero) = q
+small_2 p q (suc (suc i)) = omega arith
+
+small_4 : {a b c d : ℕ} → a < 256 → b < 256 → c < 256 → d < 256 → (i : ℕ) → get_or (a ∷ b ∷ c ∷ d ∷ []) i 0 < 256
+small_4 p q r s zero = p
+small_4 p q r s (suc zero) = q
+small_4 p q r s (suc (suc zero)) = r
+small_4 p q r s (suc (suc (suc zero))) = s
+small_4 p q r s (suc (suc (suc (suc i)))) = omega arith
+
+small_8 : {a b c d e f g h : ℕ} → a < 256 → b < 256 → c < 256 → d < 256 → e < 256 → f < 256 → g < 256 → h < 256
+    → (i : ℕ) → get_or (a ∷ b ∷ c ∷ d ∷ e ∷ f ∷ g ∷ h ∷ []) i 0 < 256
+small_8 p q r s t u v w zero = p
+small_8 p q r s t u v w (suc zero) = q
+small_8 p q r s t u v w (suc (suc zero)) = r
+small_8 p q r s t u v w (suc (suc (suc zero))) = s
+small_8 p q r s t u v w (suc (suc (suc (suc i)))) = small_4 t u v w i
+
+pub stored16 : (n : ℕ) → n < 65536 → to_le_bytes w16 (swap_bytes w16 n) ≡ be16 n
+stored16 n h = le_bytes_2 (be16 n) (swap_bytes w16 n) refl (small_2 (omega arith) (omega arith)) (omega arith)
+
+pub stored32 : (n : ℕ) → n < 4294967296 → to_le_bytes w32 (swap_bytes w32 n) ≡ be32 n
+stored32 n h = le_bytes_4 (be32 n) (swap_bytes w32 n) refl (small_4 (omega arith) (omega arith) (omega arith) (omega arith)) (omega arith)
+
+pub stored64 : (n : ℕ) → n < 18446744073709551616 → to_le_bytes w64 (swap_bytes w64 n) ≡ be64 n
+stored64 n h =
+    le_bytes_8 (be64 n) (swap_bytes w64 n) refl
+    (small_8 (omega arith) (omega arith) (omega arith) (omega arith) (omega arith) (omega arith) (omega arith) (omega arith))
+    (omega arith)

@@ -2,7 +2,9 @@
 use mathlib.Core.Path.{◌≡◌, refl, sym, ap}
 use mathlib.Core.Logic.{◌⊎◌}
 use Rattle.std.proofs.Common.{ℕ, List, Option, Some, None, Result, Ok, Err, rules}
+use Rattle.format.specs.Strip as strip
 use Rattle.format.specs.Strip.{step_at}
+use Rattle.format.specs.Strip.Step.{entry}
 use Rattle.format.proofs.Steps.{steps}
 use Rattle.refusal.specs.Numbers.{number_of}
 use Rattle.refusal.specs.declared.Refusal.{Refusal}
@@ -23,3 +25,12 @@ only_answer s p (Err r) (Err t) h g = let e = same_refusal r t (cc) ((steps s p)
 only_answer s p (Err r) (Ok (Some (b, n))) h g = cc
 only_answer s p (Err r) (Ok None) h g = cc
 only_answer s p x y h g = cc
+
+-- What an answer says of the step, where it is an entry, and where it is none.
+pub entry_of_lem : (t : strip.Step) (r : Result (Option (Entry × ℕ)) Refusal) (x : Entry) (q : ℕ) → step_meaning r ≡ t → r ≡ Ok (Some (x, q)) → t ≡ entry (entry_meaning x) q
+entry_of_lem t r x q e h = rw (← e, h) refl
+
+pub no_entry : (t : strip.Step) (r : Result (Option (Entry × ℕ)) Refusal) → step_meaning r ≡ t → ((y : Entry) (p : ℕ) → r ≡ Ok (Some (y, p)) → ⊥) → (x : strip.Entry) (q : ℕ) → t ≡ entry x q → ⊥
+no_entry t (Ok (Some (y, p))) e n x q h = n y p refl
+no_entry t (Ok None) e n x q h = cc
+no_entry t (Err r) e n x q h = cc

@@ -3,23 +3,22 @@
 
 ghost use Rattle.std.specs.Prelude.{◌≡◌};
 ghost use Rattle.format.specs.Prefix.{octets, address, comparison};
-ghost use Rattle.util.specs.Answers.{length_of};
+ghost use Rattle.util.specs.Answers.{option_of};
 ghost use Rattle.tlv.specs.Answers.{comparison_meaning};
 
 use refusal::Refusal;
-use util::Length;
 
 // The longest prefix, in bits.
 const MAX_PREFIX_LENGTH: u8 = 128;
 
 #[tactic(auto, unfolding(format::specs::Prefix::octets))]
-pub fn prefix_octets(prefix_length: u8) -> Length
-    ensures { result ≡ length_of (octets prefix_length) }
+pub fn prefix_octets(prefix_length: u8) -> Option<usize>
+    ensures { result ≡ option_of (octets prefix_length) }
 {
     if prefix_length <= MAX_PREFIX_LENGTH {
-        Length::Bytes((prefix_length as usize + 31) / 32 * 4)
+        Some((prefix_length as usize + 31) / 32 * 4)
     } else {
-        Length::Nothing
+        None
     }
 }
 

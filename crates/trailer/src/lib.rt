@@ -1,164 +1,218 @@
 // trailer.rs: the blocks that stand after an OSPF packet, into a strip. The LLS data block (RFC 5613 2.2), and the
 // authentication trailer of OSPFv3 (RFC 7166 4.1).
-#![tactic(auto)]
+#![tactic(auto, unfolding(format::specs::Strip::code, format::specs::Strip::encode, format::specs::Strip::container, format::specs::Trailer::lls_entries, format::specs::Trailer::auth_trailer_entries))]
 
-ghost use Rattle.std.specs.Prelude.{◌≡◌, ◌+◌, ◌≤◌, ◌<◌, length};
-ghost use Rattle.format.specs.Strip.{encode};
-ghost use Rattle.format.specs.Layout.{entries_at};
-ghost use Rattle.format.specs.Wrote.{Wrote};
-ghost use Rattle.format.specs.Trailer.{lls_rule, lls_entries, lls_of, auth_trailer_rows, auth_trailer_rule, auth_trailer_entries, auth_trailer_of, block_answer, block_strip};
-ghost use Rattle.util.specs.Answers.{length_of};
-ghost use Rattle.trailer.specs.Answers.{answered};
+ghost use Rattle.std.specs.Prelude.{◌≡◌, ℕ, ◌≤◌, ◌<◌, List, length};
+ghost use Rattle.std.proofs.Common.{rules};
+ghost use Rattle.std.proofs.Math.Option.{some};
+ghost use Rattle.std.proofs.lemmas.List.Edits.{sets};
+ghost use Rattle.format.specs.Strip.{Entry, encode};
+ghost use Rattle.format.specs.Cut.{Rule};
+ghost use Rattle.format.specs.Trailer.{lls_header, lls_rule, lls_entries, lls_of, auth_trailer_header, auth_trailer_rule, auth_trailer_entries, auth_trailer_of, block_of, limit};
+ghost use Rattle.format.proofs.Trailer.{lls_strip_length, lls_stands, trailer_strip_length, auth_trailer_stands};
+ghost use Rattle.strip_put.specs.Writer.{HasRoom, Writes};
+ghost use Rattle.trailer.specs.Answers.{Reads};
+ghost use Rattle.util.specs.Answers.{option_of};
 
+use refusal::Refusal;
 use strip_ids::block;
 use strip_ids::kind::{BYTES_LENGTH, CONTAINER_LENGTH, U16_LENGTH, U64_LENGTH};
-use strip_push::{begin_container_at, end_container, push_bytes_at, push_u16_at, push_u64_at};
-use util::{Length, read_be_u16};
-use walk_answer::{MAX_DATA, MAX_OFFSET, NO_ROOM, TOO_FAR, TOO_MUCH};
+use strip_push::field::{U16, U64};
+use strip_push::{begin_container, end_container, push_at, push_bytes_at};
+use strip_put::{Part, Writer};
+use util::read_be_u16;
+use walk_answer::{MAX_DATA, MAX_OFFSET, check_room};
 
-// What is at the front of the data: no block, or one, with the strip's length and the block's; or the number of a refusal, with
-// the length needed where there is no room.
-#[derive(Clone, Copy)]
-pub enum Block {
-    Absent,
-    Found { strip: usize, block: usize },
-    Refused(u8, usize),
+// A block at the front of the data: the strip's length and the block's.
+#[derive(Clone, Copy, PartialEq, Eq, Debug)]
+pub struct Block {
+    pub strip: usize,
+    pub block: usize,
 }
 
-// The fixed part of each block.
-const LLS_HEADER_SIZE: usize = 4;
+// A kind of block.
+trait Trailing {
+    // The bytes of its fixed part.
+    const HEADER_SIZE: usize;
 
-const AUTH_TRAILER_HEADER_SIZE: usize = 16;
+    ghost HEADER_SIZE: { ℕ };
 
-// The strip of each, whatever the block's length.
-const LLS_STRIP: usize = CONTAINER_LENGTH + 2 * U16_LENGTH + BYTES_LENGTH;
+    // The length of its strip, whatever the block's length.
+    const STRIP: usize;
 
-const AUTH_TRAILER_STRIP: usize = CONTAINER_LENGTH + 3 * U16_LENGTH + U64_LENGTH + BYTES_LENGTH;
+    ghost STRIP: { ℕ };
 
-pub fn push_lls(data: &[u8], offset: u64, strip: &mut [u8]) -> Block
-    ensures value { result ≡ answered (block_answer (lls_of «data».now offset) (length strip.old)) }
-    ensures strip_after { strip.new ≡ block_strip (lls_of «data».now offset) strip.old }
+    // How long the block is that stands at a place, if one does.
+    ghost rule: { Rule };
+
+    // What a block of a length is in a strip.
+    ghost entries: { List ℕ → (offset len : ℕ) → List Entry };
+
+    // The length of a block at the front of the data, if one stands there.
+    fn len(data: &[u8]) -> Option<usize>
+        requires { length «data».now ≤ 65535 }
+        ensures { result ≡ option_of (rule «data».now 0) };
+
+    fn push(strip: &mut Writer, data: Part, len: usize)
+        requires room { HasRoom strip.old STRIP }
+        requires covers { HEADER_SIZE ≤ len }
+        requires in_bounds { len ≤ length «data».bytes.now }
+        ensures { Writes strip.old (encode (entries «data».entry.bytes.now «data».entry.offset len)) strip.new };
+
+    ghost strip_length: { (d : List ℕ) (offset len : ℕ) → length (encode (entries d offset len)) ≡ STRIP };
+
+    ghost strip_fits: { STRIP < 4294967296 };
+
+    // A block that stands has its fixed part, and lies in the data.
+    ghost stands: { (d : List ℕ) (len : ℕ) → rule d 0 ≡ some len → (HEADER_SIZE ≤ len) × (len ≤ length d) };
+}
+
+pub fn push_lls(data: &[u8], offset: u64, strip: &mut [u8]) -> Result<Option<Block>, Refusal>
+    ensures { Reads (lls_of «data».now offset) strip.old result strip.new }
+{
+    push_block::<Lls>(data, offset, strip)
+}
+
+pub fn push_auth_trailer(
+    data: &[u8],
+    offset: u64,
+    strip: &mut [u8],
+) -> Result<Option<Block>, Refusal>
+    ensures { Reads (auth_trailer_of «data».now offset) strip.old result strip.new }
+{
+    push_block::<AuthTrailer>(data, offset, strip)
+}
+
+fn push_block<T: Trailing>(
+    data: &[u8],
+    offset: u64,
+    strip: &mut [u8],
+) -> Result<Option<Block>, Refusal>
+    ensures { Reads (block_of (limit «data».now offset) (T.rule «data».now 0) (T.entries «data».now offset)) strip.old result strip.new }
 {
     if MAX_DATA < data.len() {
-        return Block::Refused(TOO_MUCH, 0);
+        return Err(Refusal::TooMuch);
     }
     if MAX_OFFSET < offset {
-        return Block::Refused(TOO_FAR, 0);
+        return Err(Refusal::TooFar);
     }
-    let Length::Bytes(len) = lls_len(data) else {
-        return Block::Absent;
+    let Some(len) = T::len(data) else {
+        return Ok(None);
     };
-    if strip.len() < LLS_STRIP {
-        return Block::Refused(NO_ROOM, LLS_STRIP);
-    }
-    write_lls(strip, data, len, offset as u32);
-    Block::Found {
-        strip: LLS_STRIP,
+    check_room(strip, T::STRIP)?;
+    write_block::<T>(strip, Part::new(data, offset as u32), len);
+    Ok(Some(Block {
+        strip: T::STRIP,
         block: len,
-    }
+    }))
 }
 
-pub fn push_auth_trailer(data: &[u8], offset: u64, strip: &mut [u8]) -> Block
-    ensures value { result ≡ answered (block_answer (auth_trailer_of «data».now offset) (length strip.old)) }
-    ensures strip_after { strip.new ≡ block_strip (auth_trailer_of «data».now offset) strip.old }
+fn write_block<T: Trailing>(strip: &mut [u8], data: Part, len: usize)
+    requires room { T.STRIP ≤ length strip.old }
+    requires covers { T.HEADER_SIZE ≤ len }
+    requires in_bounds { len ≤ length «data».bytes.now }
+    ensures { strip.new ≡ sets strip.old 0 (encode (T.entries «data».entry.bytes.now «data».entry.offset len)) }
 {
-    if MAX_DATA < data.len() {
-        return Block::Refused(TOO_MUCH, 0);
-    }
-    if MAX_OFFSET < offset {
-        return Block::Refused(TOO_FAR, 0);
-    }
-    let Length::Bytes(len) = auth_trailer_len(data) else {
-        return Block::Absent;
+    let mut writer = Writer {
+        buffer: strip,
+        at: 0,
     };
-    if strip.len() < AUTH_TRAILER_STRIP {
-        return Block::Refused(NO_ROOM, AUTH_TRAILER_STRIP);
+    T::push(&mut writer, data, len);
+}
+
+struct Lls;
+
+impl Trailing for Lls {
+    const HEADER_SIZE: usize = 4;
+
+    ghost HEADER_SIZE = { lls_header };
+
+    const STRIP: usize = CONTAINER_LENGTH + 2 * U16_LENGTH + BYTES_LENGTH;
+
+    ghost STRIP = { 45 };
+
+    ghost rule = { lls_rule };
+
+    ghost entries = { lls_entries };
+
+    ghost strip_length = { lls_strip_length };
+
+    ghost strip_fits = { Prim.search rules };
+
+    ghost stands = { lls_stands };
+
+    // Its own length counts words of 32 bits: one at least, and no more than the data have. One test sees both, since 0 less 1, in
+    // 16 bits, is more words than any data have.
+    fn len(data: &[u8]) -> Option<usize> {
+        if data.len() < Self::HEADER_SIZE {
+            return None;
+        }
+        let words = read_be_u16(data, 2) as usize;
+        if (words + 65535) % 65536 >= data.len() / 4 {
+            return None;
+        }
+        Some(words * 4)
     }
-    write_auth_trailer(strip, data, len, offset as u32);
-    Block::Found {
-        strip: AUTH_TRAILER_STRIP,
-        block: len,
+
+    fn push(strip: &mut Writer, data: Part, len: usize) {
+        begin_container(strip, block::LLS, data.range(0, len));
+        push_at::<U16>(strip, block::LLS_CHECKSUM, data, 0);
+        push_at::<U16>(strip, block::LLS_DATA_LENGTH, data, 2);
+        push_bytes_at(
+            strip,
+            block::LLS_TLVS,
+            data,
+            Self::HEADER_SIZE,
+            len - Self::HEADER_SIZE,
+        );
+        end_container(strip);
     }
 }
 
-// The length of an LLS block at the front of the data, if one stands there. Its own length counts words of 32 bits: one at least,
-// and no more than the data have. One test sees both, since 0 less 1, in 16 bits, is more words than any data have.
-fn lls_len(data: &[u8]) -> Length
-    requires { length «data».now ≤ 65535 }
-    ensures { result ≡ length_of (lls_rule «data».now 0) }
-{
-    if data.len() < LLS_HEADER_SIZE {
-        return Length::Nothing;
-    }
-    let words = read_be_u16(data, 2) as usize;
-    if (words + 65535) % 65536 >= data.len() / 4 {
-        return Length::Nothing;
-    }
-    Length::Bytes(words * 4)
-}
+struct AuthTrailer;
 
-// The length of an authentication trailer at the front of the data, if one stands there. Its own length counts octets.
-fn auth_trailer_len(data: &[u8]) -> Length
-    ensures { result ≡ length_of (auth_trailer_rule «data».now 0) }
-{
-    if data.len() < AUTH_TRAILER_HEADER_SIZE {
-        return Length::Nothing;
-    }
-    let len = read_be_u16(data, 2) as usize;
-    if len < AUTH_TRAILER_HEADER_SIZE {
-        return Length::Nothing;
-    }
-    if data.len() < len {
-        return Length::Nothing;
-    }
-    Length::Bytes(len)
-}
+impl Trailing for AuthTrailer {
+    const HEADER_SIZE: usize = 16;
 
-fn write_lls(strip: &mut [u8], data: &[u8], len: usize, o: u32) -> usize
-    requires in_bounds { 45 ≤ length strip.old }
-    requires le_len { 4 ≤ len }
-    requires len_in_bounds { len ≤ length «data».now }
-    requires data_bound { o + length «data».now < 4294967296 }
-    ensures { Wrote strip.old 0 (encode (lls_entries «data».now o len)) strip.new result }
-{
-    let a = begin_container_at(strip, 0, block::LLS, 0, len, o);
-    let b = push_u16_at(strip, a, block::LLS_CHECKSUM, data, 0, o);
-    let c = push_u16_at(strip, b, block::LLS_DATA_LENGTH, data, 2, o);
-    let rest = len - LLS_HEADER_SIZE;
-    let d = push_bytes_at(strip, c, block::LLS_TLVS, LLS_HEADER_SIZE, rest, o);
-    end_container(strip, d)
-}
+    ghost HEADER_SIZE = { auth_trailer_header };
 
-fn write_auth_trailer(strip: &mut [u8], data: &[u8], len: usize, o: u32) -> usize
-    requires in_bounds { 75 ≤ length strip.old }
-    requires le_len { 16 ≤ len }
-    requires len_in_bounds { len ≤ length «data».now }
-    requires data_bound { o + length «data».now < 4294967296 }
-    ensures { Wrote strip.old 0 (encode (auth_trailer_entries «data».now o len)) strip.new result }
-{
-    let a = begin_container_at(strip, 0, block::AUTH_TRAILER, 0, len, o);
-    let b = push_auth_trailer_fields(strip, a, data, o);
-    let rest = len - AUTH_TRAILER_HEADER_SIZE;
-    let c = push_bytes_at(
-        strip,
-        b,
-        block::AUTH_DATA,
-        AUTH_TRAILER_HEADER_SIZE,
-        rest,
-        o,
-    );
-    end_container(strip, c)
-}
+    const STRIP: usize = CONTAINER_LENGTH + 3 * U16_LENGTH + U64_LENGTH + BYTES_LENGTH;
 
-// The fields of its fixed part.
-fn push_auth_trailer_fields(strip: &mut [u8], at: usize, data: &[u8], o: u32) -> usize
-    requires at_in_bounds { at + 54 ≤ length strip.old }
-    requires in_bounds { 16 ≤ length «data».now }
-    requires data_bound { o + length «data».now < 4294967296 }
-    ensures { Wrote strip.old at (encode (entries_at auth_trailer_rows «data».now o 0)) strip.new result }
-{
-    let a = push_u16_at(strip, at, block::AUTH_TYPE, data, 0, o);
-    let b = push_u16_at(strip, a, block::AUTH_DATA_LEN, data, 2, o);
-    let c = push_u16_at(strip, b, block::SA_ID, data, 6, o);
-    push_u64_at(strip, c, block::CRYPTO_SEQUENCE_NUMBER, data, 8, o)
+    ghost STRIP = { 75 };
+
+    ghost rule = { auth_trailer_rule };
+
+    ghost entries = { auth_trailer_entries };
+
+    ghost strip_length = { trailer_strip_length };
+
+    ghost strip_fits = { Prim.search rules };
+
+    ghost stands = { auth_trailer_stands };
+
+    // Its own length counts octets.
+    fn len(data: &[u8]) -> Option<usize> {
+        if data.len() < Self::HEADER_SIZE {
+            return None;
+        }
+        let len = read_be_u16(data, 2) as usize;
+        if len < Self::HEADER_SIZE {
+            return None;
+        }
+        if data.len() < len {
+            return None;
+        }
+        Some(len)
+    }
+
+    fn push(strip: &mut Writer, data: Part, len: usize) {
+        begin_container(strip, block::AUTH_TRAILER, data.range(0, len));
+        push_at::<U16>(strip, block::AUTH_TYPE, data, 0);
+        push_at::<U16>(strip, block::AUTH_DATA_LEN, data, 2);
+        push_at::<U16>(strip, block::SA_ID, data, 6);
+        push_at::<U64>(strip, block::CRYPTO_SEQUENCE_NUMBER, data, 8);
+        let rest = len - Self::HEADER_SIZE;
+        push_bytes_at(strip, block::AUTH_DATA, data, Self::HEADER_SIZE, rest);
+        end_container(strip);
+    }
 }

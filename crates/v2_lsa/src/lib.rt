@@ -1,86 +1,69 @@
 // LSAs of version 2 into a strip: RFC 2328 A.4. The bodies of Network-LSAs (A.4.3) and of opaque LSAs (RFC 5250) are here,
 // those of the other types in `v2_router` and `v2_routes`. A body is pushed up to the place that its layout covers; the
 // bytes after it, or the whole of a raw body, are one entry.
-#![tactic(auto)]
+#![tactic(auto, unfolding(format::specs::Strip::code, format::specs::Strip::encode, format::specs::V2::network_lsa2, format::specs::V2::opaque_lsa, format::specs::V2::body2))]
 
-ghost use Rattle.std.specs.Prelude.{◌≡◌, ◌+◌, ◌≤◌, ◌<◌, length};
+ghost use Rattle.std.specs.Prelude.{◌≡◌, ◌≤◌, length};
 ghost use Rattle.format.specs.Header.{header_size};
 ghost use Rattle.format.specs.Strip.{encode};
-ghost use Rattle.format.specs.Wrote.{Wrote};
 ghost use Rattle.format.specs.V2.{body2, lsa_entries2, network_lsa2, opaque_has_tlvs, opaque_lsa};
 ghost use Rattle.body.specs.Answers.{Pushed, bytes_of};
+ghost use Rattle.strip_put.specs.Writer.{HasRoom, Writes};
 
 use body::{Body, push_attached_routers, push_unparsed};
 use header::LsaHeader;
-use header::v2::push_lsa_header;
+use header::v2::push_lsa_header_fields;
 use strip_ids::v2;
-use strip_push::{push_bytes, push_ipv4_at};
+use strip_push::field::Ipv4;
+use strip_push::{push_at, push_bytes_at};
+use strip_put::{Part, Writer};
 use v2_router::push_router_lsa;
 use v2_routes::{push_external_lsa, push_summary_lsa};
 
 pub mod measure;
 
 // A whole LSA: its header, its body, and what is left of that.
-pub fn push_lsa(strip: &mut [u8], at: usize, lsa: &[u8], o: u32) -> usize
-    requires o_in_bounds { at + length (encode (lsa_entries2 lsa.now o)) ≤ length strip.old }
-    requires header_size_in_bounds { header_size ≤ length lsa.now }
-    requires lsa_bound { o + length lsa.now < 4294967296 }
-    ensures { Wrote strip.old at (encode (lsa_entries2 lsa.now o)) strip.new result }
+pub fn push_lsa(strip: &mut Writer, lsa: Part)
+    requires room { HasRoom strip.old (length (encode (lsa_entries2 lsa.bytes.now lsa.offset))) }
+    requires header_size_in_bounds { header_size ≤ length lsa.bytes.now }
+    ensures { Writes strip.old (encode (lsa_entries2 lsa.entry.bytes.now lsa.entry.offset)) strip.new }
 {
-    let a = push_lsa_header(strip, at, lsa, o);
-    let body = &lsa[LsaHeader::SIZE..];
-    let start = o + LsaHeader::SIZE as u32;
-    let pushed = push_body(
-        strip,
-        a,
-        lsa[LsaHeader::V2_TYPE_AT],
-        lsa[LsaHeader::V2_OPAQUE_TYPE_AT],
-        body,
-        start,
-    );
-    match pushed {
-        Body::Decoded { at, consumed } => push_unparsed(
-            strip,
-            at,
-            v2::UNPARSED,
-            body,
-            consumed,
-            start,
-        ),
-        Body::Raw => push_unparsed(strip, a, v2::BODY, body, 0, start),
+    push_lsa_header_fields(strip, lsa);
+    let ls_type = lsa.bytes[LsaHeader::V2_TYPE_AT];
+    let opaque_type = lsa.bytes[LsaHeader::V2_OPAQUE_TYPE_AT];
+    let body = lsa.rest(LsaHeader::SIZE);
+    match push_body(strip, ls_type, opaque_type, body) {
+        Body::Decoded { consumed } => push_unparsed(strip, v2::UNPARSED, body, consumed),
+        Body::Raw => push_unparsed(strip, v2::BODY, body, 0),
     }
 }
 
 // The body of an LS type; the opaque type matters to opaque LSAs alone.
-fn push_body(strip: &mut [u8], at: usize, ls_type: u8, opaque_type: u8, body: &[u8], o: u32) -> Body
-    requires o_in_bounds { at + length (bytes_of (body2 ls_type opaque_type body.now o)) ≤ length strip.old }
-    requires body_bound { o + length body.now < 4294967296 }
-    ensures { Pushed (body2 ls_type opaque_type body.now o) strip.old at strip.new result }
+fn push_body(strip: &mut Writer, ls_type: u8, opaque_type: u8, body: Part) -> Body
+    requires { HasRoom strip.old (length (bytes_of (body2 ls_type opaque_type body.bytes.now body.offset))) }
+    ensures { Pushed (body2 ls_type opaque_type body.entry.bytes.now body.entry.offset) strip.old strip.new result }
 {
     match ls_type {
-        1 => push_router_lsa(strip, at, body, o),
-        2 => push_network_lsa(strip, at, body, o),
-        3 | 4 => push_summary_lsa(strip, at, body, o),
-        5 | 7 => push_external_lsa(strip, at, body, o),
-        9..=11 => push_opaque_lsa(strip, at, opaque_type, body, o),
+        1 => push_router_lsa(strip, body),
+        2 => push_network_lsa(strip, body),
+        3 | 4 => push_summary_lsa(strip, body),
+        5 | 7 => push_external_lsa(strip, body),
+        9..=11 => push_opaque_lsa(strip, opaque_type, body),
         _ => Body::Raw,
     }
 }
 
 // RFC 2328 A.4.3: Network Mask, Attached Routers.
-fn push_network_lsa(strip: &mut [u8], at: usize, body: &[u8], o: u32) -> Body
-    requires o_in_bounds { at + length (bytes_of (network_lsa2 body.now o)) ≤ length strip.old }
-    requires body_bound { o + length body.now < 4294967296 }
-    ensures { Pushed (network_lsa2 body.now o) strip.old at strip.new result }
+fn push_network_lsa(strip: &mut Writer, body: Part) -> Body
+    requires { HasRoom strip.old (length (bytes_of (network_lsa2 body.bytes.now body.offset))) }
+    ensures { Pushed (network_lsa2 body.entry.bytes.now body.entry.offset) strip.old strip.new result }
 {
     if body.len() < 4 {
         return Body::Raw;
     }
-    let a = push_ipv4_at(strip, at, v2::NETWORK_MASK, body, 0, o);
-    let routers = push_attached_routers(strip, a, v2::ATTACHED_ROUTERS, body, o);
+    push_at::<Ipv4>(strip, v2::NETWORK_MASK, body, 0);
     Body::Decoded {
-        at: routers.at,
-        consumed: routers.end,
+        consumed: push_attached_routers(strip, v2::ATTACHED_ROUTERS, body),
     }
 }
 
@@ -88,23 +71,19 @@ fn push_network_lsa(strip: &mut [u8], at: usize, body: &[u8], o: u32) -> Body
 fn opaque_has_tlvs(opaque_type: u8) -> bool
     ensures { result ≡ opaque_has_tlvs opaque_type }
 {
-    match opaque_type {
-        1 | 4 | 7 | 8 => true,
-        _ => false,
-    }
+    matches!(opaque_type, 1 | 4 | 7 | 8)
 }
 
 // RFC 5250 3, types 9 to 11: TLVs, by their range alone.
-fn push_opaque_lsa(strip: &mut [u8], at: usize, opaque_type: u8, body: &[u8], o: u32) -> Body
-    requires o_in_bounds { at + length (bytes_of (opaque_lsa opaque_type body.now o)) ≤ length strip.old }
-    requires body_bound { o + length body.now < 4294967296 }
-    ensures { Pushed (opaque_lsa opaque_type body.now o) strip.old at strip.new result }
+fn push_opaque_lsa(strip: &mut Writer, opaque_type: u8, body: Part) -> Body
+    requires { HasRoom strip.old (length (bytes_of (opaque_lsa opaque_type body.bytes.now body.offset))) }
+    ensures { Pushed (opaque_lsa opaque_type body.entry.bytes.now body.entry.offset) strip.old strip.new result }
 {
-    if opaque_has_tlvs(opaque_type) {
-        let n = body.len();
-        let a = push_bytes(strip, at, v2::TLVS, o, o + n as u32);
-        Body::Decoded { at: a, consumed: n }
-    } else {
-        Body::Raw
+    if !opaque_has_tlvs(opaque_type) {
+        return Body::Raw;
+    }
+    push_bytes_at(strip, v2::TLVS, body, 0, body.len());
+    Body::Decoded {
+        consumed: body.len(),
     }
 }

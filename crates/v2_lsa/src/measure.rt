@@ -21,13 +21,10 @@ pub fn measure_lsa(lsa: &[u8]) -> Lsa
     ensures tail_value { result.tail ≡ lsa_tail2 lsa.now }
 {
     let fields = measure_lsa_header_fields(lsa);
+    let ls_type = lsa[LsaHeader::V2_TYPE_AT];
+    let opaque_type = lsa[LsaHeader::V2_OPAQUE_TYPE_AT];
     let body = &lsa[LsaHeader::SIZE..];
-    let measured = measure_body(
-        lsa[LsaHeader::V2_TYPE_AT],
-        lsa[LsaHeader::V2_OPAQUE_TYPE_AT],
-        body,
-    );
-    match measured {
+    match measure_body(ls_type, opaque_type, body) {
         Measured::Decoded { length, consumed } => {
             let rest = measure_unparsed(body, consumed);
             Lsa {
@@ -76,12 +73,11 @@ fn measure_network_lsa(body: &[u8]) -> Measured
 fn measure_opaque_lsa(opaque_type: u8, body: &[u8]) -> Measured
     ensures { (o : ℕ) → result ≡ measured_of (opaque_lsa opaque_type body.now o) }
 {
-    if opaque_has_tlvs(opaque_type) {
-        Measured::Decoded {
-            length: BYTES_LENGTH,
-            consumed: body.len(),
-        }
-    } else {
-        Measured::Raw
+    if !opaque_has_tlvs(opaque_type) {
+        return Measured::Raw;
+    }
+    Measured::Decoded {
+        length: BYTES_LENGTH,
+        consumed: body.len(),
     }
 }

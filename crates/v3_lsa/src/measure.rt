@@ -5,15 +5,14 @@ ghost use Rattle.format.specs.Strip.{Entry, encode};
 ghost use Rattle.format.specs.V3.{router_lsa3, network_lsa3, inter_area_router_lsa, tlv_lsa, body3, lsa_entries3, lsa_tail3};
 ghost use Rattle.body.specs.Answers.{measured_of};
 
-use crate::function_code;
+use crate::{Link, function_code};
+use body::list::{Item, measure_array};
 use body::{
     Lsa, Measured, ROUTER_FLAGS_LENGTH, bytes_from, measure_attached_routers, measure_unparsed,
 };
 use header::LsaHeader;
 use header::v3::measure_lsa_header_fields;
-use strip_ids::kind::{
-    BYTES_LENGTH, CONTAINER_LENGTH, IPV4_LENGTH, U8_LENGTH, U16_LENGTH, U32_LENGTH,
-};
+use strip_ids::kind::{BYTES_LENGTH, IPV4_LENGTH, U8_LENGTH};
 use strip_push::measure::measure_metric24;
 use v3_external::measure::measure_external_lsa;
 use v3_prefix_lsa::measure::{
@@ -21,15 +20,11 @@ use v3_prefix_lsa::measure::{
     measure_intra_area_prefix_lsa, measure_link_lsa,
 };
 
-// What a Router-LSA has beside its links, and a link.
-const ROUTER_LENGTH: usize = E_ROUTER_LENGTH + CONTAINER_LENGTH;
+// What a Router-LSA has before its links, and an E-Router-LSA before its TLVs.
+const ROUTER_LENGTH: usize = ROUTER_FLAGS_LENGTH + OPTIONS_LENGTH;
 
-const LINK_LENGTH: usize = CONTAINER_LENGTH + U8_LENGTH + U16_LENGTH + 2 * U32_LENGTH + IPV4_LENGTH;
-
-// What an Inter-Area-Router-LSA has beside its metric, and an E-Router-LSA and an E-Link-LSA before their TLVs.
+// What an Inter-Area-Router-LSA has beside its metric, and an E-Link-LSA before its TLVs.
 const INTER_AREA_ROUTER_LENGTH: usize = OPTIONS_LENGTH + IPV4_LENGTH;
-
-const E_ROUTER_LENGTH: usize = ROUTER_FLAGS_LENGTH + OPTIONS_LENGTH;
 
 const E_LINK_LENGTH: usize = U8_LENGTH + OPTIONS_LENGTH;
 
@@ -40,9 +35,8 @@ pub fn measure_lsa(lsa: &[u8]) -> Lsa
     ensures tail_value { result.tail ≡ lsa_tail3 lsa.now }
 {
     let header = measure_lsa_header_fields();
-    let function = function_code(lsa);
     let body = &lsa[LsaHeader::SIZE..];
-    match measure_body(function, body) {
+    match measure_body(function_code(lsa), body) {
         Measured::Decoded { length, consumed } => Lsa {
             length: header + (length + measure_unparsed(body, consumed)),
             tail: bytes_from(body, consumed),
@@ -54,6 +48,7 @@ pub fn measure_lsa(lsa: &[u8]) -> Lsa
     }
 }
 
+#[tactic(auto, unfolding(format::specs::Strip::encode, format::specs::V3::body3))]
 fn measure_body(function: u16, body: &[u8]) -> Measured
     requires { length body.now < 65536 }
     ensures { (o : ℕ) → result ≡ measured_of (body3 function body.now o) }
@@ -67,7 +62,7 @@ fn measure_body(function: u16, body: &[u8]) -> Measured
         8 => measure_link_lsa(body),
         9 => measure_intra_area_prefix_lsa(body),
         12 | 35 | 36 | 37 | 39 | 42 => measure_tlv_lsa(body, 0, 0),
-        33 => measure_tlv_lsa(body, 4, E_ROUTER_LENGTH),
+        33 => measure_tlv_lsa(body, 4, ROUTER_LENGTH),
         34 => measure_tlv_lsa(body, 4, OPTIONS_LENGTH),
         40 => measure_tlv_lsa(body, 4, E_LINK_LENGTH),
         41 => measure_tlv_lsa(body, 12, REFERENCES_LENGTH),
@@ -96,10 +91,10 @@ fn measure_router_lsa(body: &[u8]) -> Measured
     if body.len() < 4 {
         return Measured::Raw;
     }
-    let count = (body.len() - 4) / 16;
+    let links = measure_array::<Link>(body, 4, (body.len() - 4) / Link::SIZE);
     Measured::Decoded {
-        length: ROUTER_LENGTH + count * LINK_LENGTH,
-        consumed: 4 + count * 16,
+        length: ROUTER_LENGTH + links.length,
+        consumed: links.end,
     }
 }
 

@@ -6,7 +6,7 @@ ghost use Rattle.body.specs.Answers.{measured_of};
 use body::Measured;
 use strip_ids::kind::{IPV4_LENGTH, IPV6_LENGTH, U8_LENGTH, U16_LENGTH, U32_LENGTH};
 use strip_push::measure::measure_metric24;
-use util::{Length, read_be_u16, read_be_u32};
+use util::{read_be_u16, read_be_u32};
 use v3_prefix::fixed_prefix_fits;
 use v3_prefix::measure::measure_prefixes;
 
@@ -27,7 +27,7 @@ pub fn measure_inter_area_prefix_lsa(body: &[u8]) -> Measured
     requires { length body.now < 65536 }
     ensures { (o : ℕ) → result ≡ measured_of (inter_area_prefix_lsa body.now o) }
 {
-    let Length::Bytes(n) = fixed_prefix_fits(body) else {
+    let Some(n) = fixed_prefix_fits(body) else {
         return Measured::Raw;
     };
     Measured::Decoded {
@@ -43,7 +43,8 @@ pub fn measure_link_lsa(body: &[u8]) -> Measured
     if body.len() < 24 {
         return Measured::Raw;
     }
-    let prefixes = measure_prefixes(body, 24, read_be_u32(body, 20), false);
+    let count = read_be_u32(body, 20);
+    let prefixes = measure_prefixes(body, 24, count, false);
     Measured::Decoded {
         length: LINK_LENGTH + prefixes.length,
         consumed: prefixes.end,
@@ -57,7 +58,8 @@ pub fn measure_intra_area_prefix_lsa(body: &[u8]) -> Measured
     if body.len() < 12 {
         return Measured::Raw;
     }
-    let prefixes = measure_prefixes(body, 12, read_be_u16(body, 0) as u32, true);
+    let count = u32::from(read_be_u16(body, 0));
+    let prefixes = measure_prefixes(body, 12, count, true);
     Measured::Decoded {
         length: INTRA_AREA_PREFIX_LENGTH + prefixes.length,
         consumed: prefixes.end,

@@ -1,37 +1,36 @@
--- A walk and an answer of the code are those of their meaning, and the other way round; and the code's answer tells which
--- walk a number names.
-use Prim.Native.Nat.{ℕ}
+-- An answer of the definitions and one of the code: there and back.
+use Prim.Native.Nat.{ℕ, ◌≤◌, ◌<◌}
 use native.Mathlib.Omega.{arith}
-use mathlib.Core.Path.{◌≡◌, refl}
-use mathlib.Core.Option.{Option, none, some}
+use mathlib.Core.Bool.{cond}
+use mathlib.Core.Logic.{◌⊎◌, inl, inr}
+use mathlib.Core.Path.{◌≡◌, refl, sym}
+use lib.Dec.{eqb}
+use borrow.Author.Tests.{eq-eqb, ne_eqb}
+use Rattle.std.specs.Prelude.{Result, Ok, Err}
 use Rattle.format.specs.Walks as walks
-use Rattle.walk_answer.specs.Answers.{answered, answer_meaning, walk_as, walk_meaning, named_walk_of}
+use Rattle.refusal.specs.declared.Refusal.{Refusal}
+use Rattle.refusal.proofs.Numbers.{number_positive, refusal_by, refusal_back, refusal_meant}
+use Rattle.refusal.specs.Numbers.{number_of}
+use Rattle.walk_answer.specs.Answers.{answer_meaning}
 use Rattle.walk_answer.specs.declared.Answer.{Answer}
-use Rattle.walk_answer.specs.declared.Walk.{Walk}
-use Rattle.walk_answer.specs.declared.Walk.TheVariants as W
-use Rattle.walk_answer.specs.declared.NamedWalk.{NamedWalk}
-use Rattle.walk_answer.specs.declared.NamedWalk.TheVariants as N
 
-pub answer-meant : (a : walks.Answer) → answer_meaning (answered a) ≡ a
-answer-meant a = refl
+abbrev pub answered : walks.Answer → Result Answer Refusal
+answered a = cond (eqb a.number 0) (Ok (record { length = a.size; records = a.records; tail = a.tail })) (Err (refusal_by a.number a.size))
 
-pub answer_back : (a : Answer) → answered (answer_meaning a) ≡ a
-answer_back a = refl
+-- What can be answered: a strip, or a refusal of the requirements' table, of which the fifth alone gives a length.
+abbrev pub Told : walks.Answer → Type 0
+Told a = (a.number ≡ 0) ⊎ ((0 < a.number) × (a.number ≤ 13) × ((a.number ≡ 5) ⊎ (a.size ≡ 0)) × (a.records ≡ 0) × (a.tail ≡ 0))
 
-pub walk-meant : (w : walks.Walk) → walk_meaning (walk_as w) ≡ w
-walk-meant walks.Walk.header_list = refl
-walk-meant walks.Walk.update = refl
-walk-meant walks.Walk.single = refl
+pub answer-meant : (a : walks.Answer) → Told a → answer_meaning (answered a) ≡ a
+answer-meant a (inl z) = rw (eq-eqb a.number 0 z) (rw (← z) refl)
+answer-meant a (inr (g, h, k, r, t)) =
+    let m = refusal_meant a.number a.size g h k in
+    rw (ne_eqb a.number 0 (omega arith), m.0, m.1) (of_parts (sym r) (sym t))
+  where
+    of_parts : {n l j k j' k' : ℕ} → j ≡ j' → k ≡ k' → walks.answer n l j k ≡ walks.answer n l j' k'
+    of_parts p q = rw (p, q)
 
-pub walk-back : (w : Walk) → walk_as (walk_meaning w) ≡ w
-walk-back W.LsaHeaders = refl
-walk-back W.LsuLsas = refl
-walk-back W.Lsa = refl
-
-pub walk_of : (o : Option walks.Walk) (w : Walk) (r : NamedWalk) → r ≡ named_walk_of o → r ≡ N.Walk w → o ≡ some (walk_meaning w)
-walk_of (some x) w r e h = let q : walk_as x ≡ w = cc in rw (← q, walk-meant x)
-walk_of none w r e h = let z : ◌≡◌ {A = ℕ} 0 1 = cc in absurd (omega arith)
-
-pub no-walk-of : (o : Option walks.Walk) (r : NamedWalk) → r ≡ named_walk_of o → r ≡ N.Nothing → o ≡ none
-no-walk-of (some x) r e h = let z : ◌≡◌ {A = ℕ} 0 1 = cc in absurd (omega arith)
-no-walk-of none r e h = refl
+-- The code's answer is fixed by what it says.
+pub answer_back : (r : Result Answer Refusal) → answered (answer_meaning r) ≡ r
+answer_back (Ok a) = refl
+answer_back (Err r) = let h = number_positive r in rw (ne_eqb (number_of r) 0 (omega arith), refusal_back r) refl

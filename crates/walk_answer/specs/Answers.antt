@@ -1,29 +1,37 @@
--- The code's walks and answers for those of the definitions, and what they say in them.
-use Rattle.std.proofs.Math.Option.{Option, none, some}
+-- What the code's walks and answers say, in the definitions' words. A refusal has the number that the requirements give it.
+use Rattle.std.specs.Prelude.{ℕ, ◌<◌, ◌≡◌, Result, Ok, Err, List, length}
+use Rattle.std.proofs.Math.Option.{none, some}
 use Rattle.format.specs.Walks as walks
+use Rattle.refusal.specs.Numbers.{number_of, needed_of}
+use Rattle.refusal.specs.declared.Refusal.{Refusal}
+use Rattle.refusal.specs.declared.Refusal.TheVariants.{NoWalk}
 use Rattle.walk_answer.specs.declared.Answer.{Answer}
 use Rattle.walk_answer.specs.declared.Walk.{Walk}
 use Rattle.walk_answer.specs.declared.Walk.TheVariants as W
-use Rattle.walk_answer.specs.declared.NamedWalk.{NamedWalk}
-use Rattle.walk_answer.specs.declared.NamedWalk.TheVariants as N
-
-abbrev pub walk_as : walks.Walk → Walk
-walk_as walks.Walk.header_list = W.LsaHeaders
-walk_as walks.Walk.update = W.LsuLsas
-walk_as walks.Walk.single = W.Lsa
 
 abbrev pub walk_meaning : Walk → walks.Walk
 walk_meaning W.LsaHeaders = walks.Walk.header_list
 walk_meaning W.LsuLsas = walks.Walk.update
 walk_meaning W.Lsa = walks.Walk.single
 
-abbrev pub named_walk_of : Option walks.Walk → NamedWalk
-named_walk_of none = N.Nothing
-named_walk_of (some w) = N.Walk (walk_as w)
+-- The walk that a number names, or the refusal where it names none.
+abbrev pub Names : ℕ → Result Walk Refusal → Type 0
+Names n (Ok w) = walks.walk_named n ≡ some (walk_meaning w)
+Names n (Err r) = (r ≡ NoWalk) × (walks.walk_named n ≡ none)
 
--- A walk's answer: 0 or a refusal's number, the strip's length, records accepted, tail bytes.
-abbrev pub answered : walks.Answer → Answer
-answered a = record { number = a.number; length = a.size; records = a.records; tail = a.tail }
+-- 0, or a refusal's number.
+abbrev pub refusal_meaning : {A : Type 0} → Result A Refusal → ℕ
+refusal_meaning (Ok a) = 0
+refusal_meaning (Err r) = number_of r
 
-abbrev pub answer_meaning : Answer → walks.Answer
-answer_meaning a = walks.answer a.number a.length a.records a.tail
+-- A walk's answer: 0 or a refusal's number, the strip's length or the length needed, records accepted, tail bytes.
+abbrev pub answer_meaning : Result Answer Refusal → walks.Answer
+answer_meaning (Ok a) = walks.answer 0 a.length a.records a.tail
+answer_meaning (Err r) = walks.answer (number_of r) (needed_of r) 0 0
+
+-- What a walk promises of its answer, and of the lent buffer before and after.
+pub record Promised (x : walks.Outcome) (before : List ℕ) (r : Result Answer Refusal) (after : List ℕ) : Type 0 where
+  pub value : answer_meaning r ≡ walks.answer_of x (length before)
+  pub strip_after : after ≡ walks.strip_of x before
+  -- every answer fits in an export's number
+  pub length_bound : (answer_meaning r).size < 4294967296

@@ -1,1 +1,1 @@
-mod Objects
+pub mod Headers

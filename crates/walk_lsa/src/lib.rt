@@ -1,38 +1,44 @@
 // The walk over a single LSA, and the choice on the version for an LSA in an update.
 #![tactic(auto)]
 
-ghost use Rattle.std.specs.Prelude.{◌≡◌, ℕ, ◌+◌, ◌≤◌, ◌<◌, length};
+ghost use Rattle.std.specs.Prelude.{◌≡◌, ℕ, ◌*◌, ◌≤◌, ◌<◌, length};
+ghost use Rattle.std.proofs.lemmas.List.Edits.{sets};
 ghost use Rattle.format.specs.Strip.{encode};
-ghost use Rattle.format.specs.Wrote.{Wrote};
 ghost use Rattle.format.specs.Header.{header_size};
-ghost use Rattle.format.specs.Walks.{lsa_entries, lsa_tail, lsa_of, answer_of, strip_of};
-ghost use Rattle.walk_answer.specs.Answers.{answered};
+ghost use Rattle.format.specs.Walks.{lsa_entries, lsa_tail, lsa_of};
+ghost use Rattle.strip_put.specs.Writer.{HasRoom, Writes};
+ghost use Rattle.walk_answer.specs.Answers.{Promised};
 
 use body::Lsa;
 use header::LsaHeader;
-use walk_answer::{Answer, no_room, refusal_of, refused};
+use refusal::Refusal;
+use strip_put::{Part, Writer};
+use walk_answer::{Answer, check_call, check_room};
 
-pub fn push_lsa(version: u8, data: &[u8], offset: u64, strip: &mut [u8]) -> Answer
-    ensures value { result ≡ answered (answer_of (lsa_of version «data».now offset) (length strip.old)) }
-    ensures strip_after { strip.new ≡ strip_of (lsa_of version «data».now offset) strip.old }
-    ensures length_bound { result.length < 4294967296 }
+pub fn push_lsa(version: u8, data: &[u8], offset: u64, strip: &mut [u8]) -> Result<Answer, Refusal>
+    ensures { Promised (lsa_of version «data».now offset) strip.old result strip.new }
 {
-    let number = refusal_of(version, data, offset, LsaHeader::SIZE);
-    if number != 0 {
-        return refused(number);
-    }
-    let m = measure_lsa(version, data);
-    let length = m.length;
-    if strip.len() < length {
-        return no_room(length);
-    }
-    push_lsa_fields(strip, 0, version, data, offset as u32);
-    Answer {
-        number: 0,
-        length,
+    check_call(version, data, offset, LsaHeader::SIZE)?;
+    let lsa = measure_lsa(version, data);
+    check_room(strip, lsa.length)?;
+    write_lsa(strip, version, Part::new(data, offset as u32));
+    Ok(Answer {
+        length: lsa.length,
         records: 1,
-        tail: m.tail,
-    }
+        tail: lsa.tail,
+    })
+}
+
+fn write_lsa(strip: &mut [u8], version: u8, lsa: Part)
+    requires room { length (encode (lsa_entries version lsa.bytes.now lsa.offset)) ≤ length strip.old }
+    requires header_size_in_bounds { header_size ≤ length lsa.bytes.now }
+    ensures { strip.new ≡ sets strip.old 0 (encode (lsa_entries version lsa.entry.bytes.now lsa.entry.offset)) }
+{
+    let mut writer = Writer {
+        buffer: strip,
+        at: 0,
+    };
+    push_lsa_fields(&mut writer, version, lsa);
 }
 
 pub fn measure_lsa(version: u8, lsa: &[u8]) -> Lsa
@@ -40,34 +46,29 @@ pub fn measure_lsa(version: u8, lsa: &[u8]) -> Lsa
     requires lsa_len_bound { length lsa.now < 65536 }
     ensures by_index { (o : ℕ) → result.length ≡ length (encode (lsa_entries version lsa.now o)) }
     ensures tail_value { result.tail ≡ lsa_tail version lsa.now }
+    ensures upper_bound { result.length ≤ 18 * length lsa.now }
 {
     if version == 2 {
-        v2_lsa::measure::measure_lsa(&lsa[..])
+        v2_lsa::measure::measure_lsa(lsa)
     } else {
-        v3_lsa::measure::measure_lsa(&lsa[..])
+        v3_lsa::measure::measure_lsa(lsa)
     }
 }
 
-// The LSA is lent anew: a slice that is handed on as it came is read again after every store.
-pub fn push_lsa_fields(strip: &mut [u8], at: usize, version: u8, lsa: &[u8], o: u32) -> usize
-    requires o_in_bounds { at + length (encode (lsa_entries version lsa.now o)) ≤ length strip.old }
-    requires header_size_in_bounds { header_size ≤ length lsa.now }
-    requires lsa_bound { o + length lsa.now < 4294967296 }
-    ensures { Wrote strip.old at (encode (lsa_entries version lsa.now o)) strip.new result }
+pub fn push_lsa_fields(strip: &mut Writer, version: u8, lsa: Part)
+    requires room { HasRoom strip.old (length (encode (lsa_entries version lsa.bytes.now lsa.offset))) }
+    requires header_size_in_bounds { header_size ≤ length lsa.bytes.now }
+    ensures { Writes strip.old (encode (lsa_entries version lsa.entry.bytes.now lsa.entry.offset)) strip.new }
 {
+    // A writer of its own: of one that was handed in, the compiler reads buffer and place again after every byte.
+    let mut out = Writer {
+        buffer: &mut *strip.buffer,
+        at: strip.at,
+    };
     if version == 2 {
-        v2_lsa::push_lsa(strip, at, &lsa[..], o)
+        v2_lsa::push_lsa(&mut out, lsa);
     } else {
-        v3_lsa::push_lsa(strip, at, &lsa[..], o)
+        v3_lsa::push_lsa(&mut out, lsa);
     }
-}
-
-// The same, with the strip lent from its place on: a store at one address takes less than one at a sum of two.
-pub fn push_lsa_at(strip: &mut [u8], at: usize, version: u8, lsa: &[u8], o: u32) -> usize
-    requires o_in_bounds { at + length (encode (lsa_entries version lsa.now o)) ≤ length strip.old }
-    requires header_size_in_bounds { header_size ≤ length lsa.now }
-    requires lsa_bound { o + length lsa.now < 4294967296 }
-    ensures { Wrote strip.old at (encode (lsa_entries version lsa.now o)) strip.new result }
-{
-    at + push_lsa_fields(&mut strip[at..], 0, version, &lsa[..], o)
+    strip.at = out.at;
 }

@@ -26,10 +26,24 @@ fn enumerators(prefix: &str) -> BTreeMap<String, usize> {
         .collect()
 }
 
-/// The numbers of a file of crates/strip_ids.
-fn constants(file: &str) -> BTreeMap<String, usize> {
+/// A file of crates/strip_ids.
+fn source(file: &str) -> String {
     let folder = Path::new(env!("CARGO_MANIFEST_DIR")).join("../../crates/strip_ids/src");
-    let text = fs::read_to_string(folder.join(file)).expect("crates/strip_ids");
+    fs::read_to_string(folder.join(file)).expect("crates/strip_ids")
+}
+
+/// The numbers of the cases of its enum, by their names in capitals.
+fn cases(file: &str) -> BTreeMap<String, usize> {
+    let text = source(file);
+    let lines = text.lines().filter_map(|line| line.strip_prefix("    "));
+    let rows = lines.filter_map(|line| line.strip_suffix(',')?.split_once(" = "));
+    rows.filter_map(|(name, n)| Some((name.to_uppercase(), n.parse().ok()?)))
+        .collect()
+}
+
+/// Its numbers that are constants.
+fn constants(file: &str) -> BTreeMap<String, usize> {
+    let text = source(file);
     let lines = text
         .lines()
         .filter_map(|line| line.strip_prefix("pub const "));
@@ -59,7 +73,8 @@ fn ids_are_those_of_the_proved_crates() {
 
 #[test]
 fn kinds_are_those_of_the_proved_crates() {
-    let there = constants("kind.rt");
+    let mut there = constants("kind.rt");
+    there.append(&mut cases("kind.rt"));
     let mut kinds = enumerators("OSPF_KIND_");
     for (name, body) in enumerators("OSPF_BODY_") {
         kinds.insert(format!("{name}_BODY"), body);

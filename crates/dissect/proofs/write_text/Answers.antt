@@ -1,4 +1,5 @@
-use Rattle.std.proofs.Common.{[], arith, refl, sym, subst}
+use lib.ListN.{replicate, length-replicate}
+use Rattle.std.proofs.Common.{ℕ, [], arith, refl, sym, subst}
 use Rattle.std.proofs.KnownBytes.{Appends-trans}
 use Rattle.std.proofs.lemmas.Result.{on_ok_weaker}
 use Rattle.std.specs.Io.KnownBytes.{Appends}
@@ -9,24 +10,24 @@ use Rattle.dissect.proofs.write_text.Goals as goal
 pub write_piece-requires-clause-piece_value : goal.write_piece-requires-clause-piece_value
 write_piece-requires-clause-piece_value g c =
     let k = c.answer_line-k.ensures in
-    (first _ c.large_buffer-strip.result _ (sym c.large_buffer-strip.ensures) c.run-answer.ensures.value (omega arith) k.wrote k.upper_bound.0).0
+    (first _ (replicate {A = ℕ} 65536 0) _ (length-replicate {A = ℕ} 65536 0) c.run-answer.ensures.walked.value (omega arith) k.wrote k.upper_bound.0).0
 
 pub write_piece-requires-clause-piece_in_bounds : goal.write_piece-requires-clause-piece_in_bounds
 write_piece-requires-clause-piece_in_bounds g c =
     let k = c.answer_line-k.ensures in
-    (first _ c.large_buffer-strip.result _ (sym c.large_buffer-strip.ensures) c.run-answer.ensures.value (omega arith) k.wrote k.upper_bound.0).1
+    (first _ (replicate {A = ℕ} 65536 0) _ (length-replicate {A = ℕ} 65536 0) c.run-answer.ensures.walked.value (omega arith) k.wrote k.upper_bound.0).1
 
 pub write_entries-requires : goal.write_entries-requires
 write_entries-requires g c =
     let k = c.answer_line-k.ensures in
-    let r = c.run-answer.ensures in
-    others _ c.large_buffer-strip.result _ (sym c.large_buffer-strip.ensures) r.value (omega arith) k.wrote k.upper_bound.0
+    let r = c.run-answer.ensures.walked in
+    others _ (replicate {A = ℕ} 65536 0) _ (length-replicate {A = ℕ} 65536 0) r.value (omega arith) k.wrote k.upper_bound.0
     r.strip_after c.shown_part.ensures c.in_ok-written.ensures.count
 
 pub returns-clause-bytes : goal.returns-clause-bytes
 returns-clause-bytes g c =
     let k = c.answer_line-k.ensures in
-    let f = first _ c.large_buffer-strip.result _ (sym c.large_buffer-strip.ensures) c.run-answer.ensures.value (omega arith) k.wrote k.upper_bound.0 in
+    let f = first _ (replicate {A = ℕ} 65536 0) _ (length-replicate {A = ℕ} 65536 0) c.run-answer.ensures.walked.value (omega arith) k.wrote k.upper_bound.0 in
     let w = c.in_ok-written.ensures in
     on_ok_weaker c.write_entries.result
     (λ rest. subst (Appends _ _) (sym (rw w.count (cut _ [] 0 0 _ refl f.0))) (Appends-trans _ _ _ _ _ w.bytes rest))

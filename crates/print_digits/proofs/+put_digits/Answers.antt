@@ -1,5 +1,5 @@
 use native.Mathlib.Omega.{arith}
-use Rattle.strip_put.proofs.Writes.{then}
+use Rattle.strip_put.proofs.Laws.{then}
 use Rattle.print_digits.proofs.Numerals.{digits_one, digits_more}
 use Rattle.print_digits.proofs.+put_digits.Goals as goal
 use Rattle.print_digits.proofs.+put_digits.Goals.{then-k-gt0+then-n-ge10, else-k-gt0}

@@ -1,5 +1,5 @@
 use Rattle.std.proofs.Common.{◌≡◌, ◌/◌, ◌%◌, arith}
-use Rattle.strip_put.proofs.Writes.{then}
+use Rattle.strip_put.proofs.Laws.{then}
 use Rattle.print_digits.proofs.put_dotted.Goals as goal
 
 pub returns : goal.returns

@@ -1,4 +1,4 @@
-use Rattle.strip_put.proofs.Writes.{then}
+use Rattle.strip_put.proofs.Laws.{then}
 use Rattle.print_lines.proofs.put_ipv6.Goals as goal
 
 pub returns : goal.returns

@@ -1,4 +1,4 @@
-use Rattle.strip_put.proofs.Writes.{then}
+use Rattle.strip_put.proofs.Laws.{then}
 use Rattle.format.specs.Print.{line}
 use Rattle.print_lines.proofs.put_line.Goals as goal
 

@@ -1,19 +1,16 @@
-use Rattle.std.proofs.Common.{◌≡◌, ℕ, ◌+◌, ◌≤◌, List, ◌++◌, rules, length, take, drop, sym, ap, ◌∙◌, subst, le_refl, drop_at, length-take-le}
-use Rattle.std.proofs.lemmas.Slice.{take-put_mid_below}
+use Rattle.std.proofs.Common.{◌≡◌, ℕ, ◌+◌, ◌≤◌, List, ◌++◌, rules, length, take, sym, subst, length-take-le}
 use Rattle.std.specs.Io.KnownBytes.{Consumes}
 use Rattle.std.proofs.KnownBytes.{Consumes-trans}
 use borrow.Rule.Slice.PartMut.{put_mid, post_of}
-use lib.Seq.{take-add, take-append-le}
+use lib.Seq.{take-append-add, take-append-le}
 use Rattle.read_input.proofs.read_full.Goals as goal
 
 -- What is at the front once the front of ys has come to stand from a on.
 front_grown : (a k n : ℕ) (xs ys : List ℕ) → a ≤ length xs → n ≤ length ys → take a xs ++ take n ys ≡ take (a + n) (put_mid a k xs ys)
 front_grown a k n xs ys inside fits =
     let after = post_of a k xs in
-    let all = put_mid a k xs ys in
-    ap (λ (l : List ℕ). take a xs ++ l) (sym (ap (take n) (drop_at (take a xs) (ys ++ after) a (length-take-le a xs inside)) ∙ take-append-le n ys after fits))
-    ∙ ap (λ (l : List ℕ). l ++ take n (drop a all)) (sym (take-put_mid_below a k xs ys a (le_refl _) inside))
-    ∙ sym (take-add a n all)
+    let length_front = length-take-le a xs inside in
+    rw (← take-append-le n ys after fits) (sym (rw length_front at (take-append-add (take a xs) (ys ++ after) n)))
 
 pub loop-done-preserved : goal.loop-done-preserved
 loop-done-preserved g c =

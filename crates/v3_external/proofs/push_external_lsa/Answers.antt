@@ -1,62 +1,19 @@
 use native.Mathlib.Omega.{arith}
-use mathlib.Core.Option.{some}
-use mathlib.Core.Path.{◌≡◌}
-use lib.ListN.{get_or}
-use Rattle.format.proofs.Lengths.{length_both}
-use Rattle.format.proofs.Wrote.{then, encode-append}
-use Rattle.body.proofs.Laws.{pushed_decoded, pushed_raw}
-use Rattle.format.specs.V3.{external_flags, external_prefix, fixed_prefix_fits}
-use Rattle.v3_external.proofs.Bodies.{external_raw, external_short, external_decoded}
-use Rattle.format.proofs.Prefix.{fits_inside}
-use Rattle.util.proofs.Laws.{some_of, none_of}
+use borrow.Author.Tests.{le-ltb}
+use lib.ListN.{length}
+use Rattle.format.proofs.Wrote.{encode-append}
+use Rattle.format.specs.V3.{external_flags, external_prefix, external_end, external_lsa3}
+use Rattle.body.proofs.Laws.{pushed_decoded}
+use Rattle.strip_put.proofs.Laws.{then}
+use Rattle.util.proofs.Laws.{some_of}
 use Rattle.v3_external.proofs.push_external_lsa.Goals as goal
-use Rattle.v3_external.proofs.push_external_lsa.Goals.{In-Bytes}
-
-pub returns-in_default : goal.returns-in_default
-returns-in_default c =
-    let b = c.args.body.now in
-    rw (external_raw b c.args.o (none_of (fixed_prefix_fits b) c.fixed_prefix_fits.result c.fixed_prefix_fits.ensures c.in_default.is))
-    (pushed_raw _ _)
-
-fits : (c : In-Bytes) → fixed_prefix_fits c.args.body.now ≡ some c.in-Bytes.n
-fits c = some_of _ _ c.fixed_prefix_fits.result c.fixed_prefix_fits.ensures c.in-Bytes.is
-
-pub external_end-end-requires : goal.external_end-end-requires
-external_end-end-requires c =
-    let b = c.args.body.now in
-    let i = fits_inside b (get_or b 4 0) 8 _ (fits (goal.at.external_end-end-requires c).In-Bytes) in
-    omega arith
-
-pub returns-then-body-end : goal.returns-then-body-end
-returns-then-body-end c = rw (external_short c.args.body.now c.args.o _ (fits (goal.at.returns-then-body-end c).In-Bytes) (omega arith)) (pushed_raw _ _)
-
-pub push_external_flags-a-requires : goal.push_external_flags-a-requires
-push_external_flags-a-requires c =
-    let b = c.args.body.now in
-    let f = fits (goal.at.push_external_flags-a-requires c).In-Bytes in
-    let h = rw (external_decoded b c.args.o _ f (omega arith), length_both (external_flags b c.args.o), length_both (external_prefix b c.args.o _)) at c.requires.o_in_bounds in
-    let i = fits_inside b (get_or b 4 0) 8 _ f in
-    omega arith
-
-pub push_external_prefix-b-requires : goal.push_external_prefix-b-requires
-push_external_prefix-b-requires c =
-    let b = c.args.body.now in
-    let f = fits (goal.at.push_external_prefix-b-requires c).In-Bytes in
-    let h = rw (external_decoded b c.args.o _ f (omega arith), length_both (external_flags b c.args.o), length_both (external_prefix b c.args.o _)) at c.requires.o_in_bounds in
-    let i = fits_inside b (get_or b 4 0) 8 _ f in
-    omega arith
-
-pub push_external_optional-c-requires : goal.push_external_optional-c-requires
-push_external_optional-c-requires c =
-    let b = c.args.body.now in
-    let f = fits (goal.at.push_external_optional-c-requires c).In-Bytes in
-    let h = rw (external_decoded b c.args.o _ f (omega arith), length_both (external_flags b c.args.o), length_both (external_prefix b c.args.o _)) at c.requires.o_in_bounds in
-    let i = fits_inside b (get_or b 4 0) 8 _ f in
-    omega arith
 
 pub returns : goal.returns
+unfolding external_lsa3
 returns c =
-    rw (external_decoded c.args.body.now c.args.o _ (fits (goal.at.returns c).In-Bytes) (omega arith))
+    let b = c.args.body in
+    let f = some_of _ _ _ c.fixed_prefix_fits.ensures.octets c.in-Some.is in
+    rw (f, external_lsa3, le-ltb (length b.bytes.now) (external_end b.bytes.now c.in-Some.n) (omega arith))
     (pushed_decoded _ _ _ c.external_end-end.ensures
-    (rw (encode-append, encode-append (external_prefix c.args.body.now c.args.o _))
-    (then c.push_external_flags-a.ensures (then c.push_external_prefix-b.ensures c.push_external_optional-c.ensures))))
+    (rw (encode-append (external_flags b.bytes.now b.offset), encode-append (external_prefix b.bytes.now b.offset _))
+    (then c.push_external_flags.ensures (then c.push_external_prefix.ensures c.push_external_optional.ensures))))

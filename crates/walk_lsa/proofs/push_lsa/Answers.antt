@@ -1,52 +1,34 @@
-use Rattle.walk_answer.proofs.Ends.{ends_refused, ends_full, ends_done}
-use Rattle.format.proofs.Refusals.{Limits, limits}
-use Rattle.format.proofs.Sizes.{lsa_size}
-use Rattle.format.specs.Walks.{lsa_of}
 use native.Mathlib.Omega.{arith}
-use mathlib.Core.Path.{refl, sym, ◌∙◌}
+use mathlib.Core.Path.{sym}
+use Rattle.std.proofs.lemmas.Result.{err_from_is_err_and}
+use Rattle.format.specs.Walks.{lsa_of}
+use Rattle.format.proofs.Refusals.{limits}
+use Rattle.walk_answer.proofs.Ends.{ends_refused, goes_on, ends_full, ends_done}
 use Rattle.walk_lsa.proofs.push_lsa.Goals as goal
-use Rattle.walk_lsa.proofs.push_lsa.Goals.{Else-number-ne0}
 
-pub returns-then-number-ne0 : goal.returns-then-number-ne0
+pub returns-in_err-check_call : goal.returns-in_err-check_call
 unfolding lsa_of
-returns-then-number-ne0 c =
-    let t = ends_refused _ _ _ _ _ c.refusal_of-number.ensures c.if-number-ne0.true c.refused.ensures in
-    record {
-      value = t.0;
-      strip_after = t.1.0;
-      length_bound = t.1.1;
-    }
+returns-in_err-check_call c =
+    let p = err_from_is_err_and c.from_residual.result c.from_residual.ensures.1 in
+    rw (p.1, p.2) (ends_refused _ _ _ _ c.in_err-check_call.ensures.number c.in_err-check_call.ensures.needs_nothing)
 
--- past the refusals, data and offset are within their limits
-passed : (c : Else-number-ne0) → let s = c.args in Limits s.data.now s.offset 20
-passed c =
-    let s = c.args in
-    limits s.version s.data.now s.offset 20 (sym c.refusal_of-number.ensures ∙ c.if-number-ne0.false)
-
-pub returns-then-strip-length : goal.returns-then-strip-length
+pub returns-in_err-check_room : goal.returns-in_err-check_room
 unfolding lsa_of
-returns-then-strip-length c =
-    let s = c.args in
-    let m = passed (goal.at.returns-then-strip-length c).Else-number-ne0 in
-    let size = c.measure_lsa-m.ensures.by_index s.offset in
-    let small = lsa_size s.version s.data.now s.offset m.enough m.data_fits in
-    let t = ends_full _ _ _ _ _ c.refusal_of-number.ensures c.if-number-ne0.false size (omega arith) (omega arith) c.no_room.ensures in
-    record {
-      value = t.0;
-      strip_after = t.1.0;
-      length_bound = t.1.1;
-    }
+returns-in_err-check_room c =
+    let a = c.args in
+    let n = sym c.in_ok-check_call.ensures.number in
+    let k = limits a.version a.data.now a.offset 20 n in
+    let p = err_from_is_err_and c.from_residual-in_err-check_room.result c.from_residual-in_err-check_room.ensures.1 in
+    let e = c.in_err-check_room.ensures.err in
+    let m = c.measure_lsa-lsa.ensures in
+    rw (p.1, p.2, e.0) (goes_on _ _ n (ends_full _ _ _ _ (m.by_index a.offset) (omega (arith, m.upper_bound, k.data_fits)) e.1))
 
 pub returns : goal.returns
 unfolding lsa_of
 returns c =
-    let s = c.args in
-    let m = passed (goal.at.returns c).Else-number-ne0 in
-    let size = c.measure_lsa-m.ensures.by_index s.offset in
-    let small = lsa_size s.version s.data.now s.offset m.enough m.data_fits in
-    let t = ends_done _ _ _ _ _ c.refusal_of-number.ensures c.if-number-ne0.false size (omega arith) (omega arith) refl c.measure_lsa-m.ensures.tail_value c.push_lsa_fields.ensures in
-    record {
-      value = t.0;
-      strip_after = t.1.0;
-      length_bound = t.1.1;
-    }
+    let a = c.args in
+    let n = sym c.in_ok-check_call.ensures.number in
+    let k = limits a.version a.data.now a.offset 20 n in
+    let m = c.measure_lsa-lsa.ensures in
+    let w = rw (c.new.ensures.0, c.new.ensures.1) at c.write_lsa.ensures in
+    rw m.tail_value (goes_on _ _ n (ends_done _ _ _ _ (m.by_index a.offset) (omega (arith, m.upper_bound, k.data_fits)) c.in_ok-check_room.ensures.ok w))

@@ -1,6 +1,0 @@
-use Rattle.format.specs.Strip.{code}
-use Rattle.strip_push.proofs.begin_container_at.Goals as goal
-
-pub returns : goal.returns
-unfolding code
-returns c = c.put_head_at.ensures
