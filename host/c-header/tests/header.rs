@@ -15,15 +15,21 @@ fn the_file_is_up_to_date() {
     );
 }
 
+/// The numbers of lines `NAME = number`, by their names in capitals.
+fn numbers<'a>(lines: impl Iterator<Item = &'a str>) -> BTreeMap<String, usize> {
+    let rows = lines.filter_map(|line| line.trim_end_matches(',').split_once(" = "));
+    rows.map(|(name, n)| (name.to_uppercase(), n.parse().expect("a number")))
+        .collect()
+}
+
 /// The enumerators of the generated part, by what follows `prefix`.
 fn enumerators(prefix: &str) -> BTreeMap<String, usize> {
     let generated = c_header::generated();
-    let lines = generated
-        .lines()
-        .filter_map(|line| line.trim().strip_prefix(prefix));
-    let rows = lines.filter_map(|line| line.trim_end_matches(',').split_once(" = "));
-    rows.map(|(name, n)| (name.to_string(), n.parse().expect("a number")))
-        .collect()
+    numbers(
+        generated
+            .lines()
+            .filter_map(|line| line.trim().strip_prefix(prefix)),
+    )
 }
 
 /// A file of crates/strip_ids.
@@ -32,13 +38,14 @@ fn source(file: &str) -> String {
     fs::read_to_string(folder.join(file)).expect("crates/strip_ids")
 }
 
-/// The numbers of the cases of its enum, by their names in capitals.
+/// The numbers of the cases of its enum.
 fn cases(file: &str) -> BTreeMap<String, usize> {
-    let text = source(file);
-    let lines = text.lines().filter_map(|line| line.strip_prefix("    "));
-    let rows = lines.filter_map(|line| line.strip_suffix(',')?.split_once(" = "));
-    rows.filter_map(|(name, n)| Some((name.to_uppercase(), n.parse().ok()?)))
-        .collect()
+    let source = source(file);
+    numbers(
+        source
+            .lines()
+            .filter_map(|line| line.strip_prefix("    ")?.strip_suffix(',')),
+    )
 }
 
 /// Its numbers that are constants.
