@@ -16,16 +16,12 @@ use Rattle.body.specs.declared.Body.TheVariants.{Decoded, Raw}
 use Rattle.body.specs.declared.Measured.{Measured}
 use Rattle.body.specs.declared.Measured.TheVariants as measured
 use Rattle.strip_put.specs.declared.Writer.{Writer}
-use Rattle.strip_put.specs.Writer.{Writes, HasRoom}
-use Rattle.strip_put.proofs.Laws.{nothing, then}
+use Rattle.strip_put.specs.Writer.{Writes}
+use Rattle.strip_put.proofs.Laws.{then}
 
 -- Its entries are written, and as many bytes are consumed.
 pub pushed_decoded : {u v : Writer} (es : List Entry) (n m : ℕ) → m ≡ n → Writes u (encode es) v → Pushed (decoded es n) u v (Decoded m)
 pushed_decoded es n m e w = record { answer = rw e refl; wrote = w }
-
--- A raw body writes nothing.
-pub pushed_raw : (u : Writer) → Pushed raw u u Raw
-pushed_raw u = record { answer = refl; wrote = nothing u }
 
 own_bytes : (x : body.Body) → encode (own_of x) ≡ bytes_of x
 unfolding encode
@@ -80,25 +76,6 @@ module _ (hs : List Entry) (r u : ℕ) (x : body.Body) (b : List ℕ) (o : ℕ) 
   pub lsa_raw : {s₀ s₁ s₂ s₃ : Writer} → Writes s₀ (encode hs) s₁ → Pushed x s₁ s₂ y → y ≡ Raw → Writes s₂ (encode (leftover r b o 0)) s₃
       → Writes s₀ (encode (hs ++ body_entries r u x b o)) s₃
   lsa_raw v p e w = rw (encode_lsa hs r u x b o, pushed_is_raw x y p.answer e r u b o) (then v (then p.wrote w))
-
-  -- where the whole has room, so has each part
-  pub room_header : (s₀ : Writer) → HasRoom s₀ (length (encode (hs ++ body_entries r u x b o))) → HasRoom s₀ (length (encode hs))
-  room_header s₀ h = omega (arith, length_lsa hs r u x b o)
-
-  pub room_body : {s₀ s₁ : Writer} → HasRoom s₀ (length (encode (hs ++ body_entries r u x b o))) → Writes s₀ (encode hs) s₁ → HasRoom s₁ (length (bytes_of x))
-  room_body h v = omega (arith, length_lsa hs r u x b o, v.place, v.same_length)
-
-  pub room_decoded : {s₀ s₁ s₂ : Writer} (n : ℕ) → HasRoom s₀ (length (encode (hs ++ body_entries r u x b o))) → Writes s₀ (encode hs) s₁ → Pushed x s₁ s₂ y → y ≡ Decoded n
-      → HasRoom s₂ (length (encode (leftover u b o n)))
-  room_decoded n h v p e =
-      let q = rw (pushed_is_decoded x n y p.answer e r u b o) at (length_lsa hs r u x b o) in
-      omega (arith, q, v.place, v.same_length, p.wrote.place, p.wrote.same_length)
-
-  pub room_raw : {s₀ s₁ s₂ : Writer} → HasRoom s₀ (length (encode (hs ++ body_entries r u x b o))) → Writes s₀ (encode hs) s₁ → Pushed x s₁ s₂ y → y ≡ Raw
-      → HasRoom s₂ (length (encode (leftover r b o 0)))
-  room_raw h v p e =
-      let q = rw (pushed_is_raw x y p.answer e r u b o) at (length_lsa hs r u x b o) in
-      omega (arith, q, v.place, v.same_length, p.wrote.place, p.wrote.same_length)
 
 -- Two measures are the same where their parts are.
 pub same_decoded : {a a' n n' : ℕ} → a ≡ a' → n ≡ n' → measured.Decoded a n ≡ measured.Decoded a' n'

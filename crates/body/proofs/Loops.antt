@@ -1,6 +1,8 @@
 -- The laws of a loop that writes the entries of a list one by one, and of one that sums up their lengths.
 use Prim.Native.Nat.{ℕ, ◌+◌, ◌*◌, ◌-◌, ◌≤◌, ◌<◌}
+use native.Mathlib.Nat.{suc-mul}
 use native.Mathlib.Omega.{arith}
+use Rattle.std.proofs.Math.Nat.{mul-le-mul_right}
 use mathlib.Core.Path.{◌≡◌, refl, ◌∙◌}
 use mathlib.Core.List.{List, [], flat_map}
 use mathlib.Core.Option.{some}
@@ -62,3 +64,10 @@ module _ (i n : ℕ) (f : Span → List Entry) (b : List ℕ) (o p k : ℕ) wher
 
   pub opened : 0 < k → p + k * n ≤ length b → listing_if_any i f o p (cut (fixed_rule n) b k p) ≡ listing i f o p (cut (fixed_rule n) b k p)
   opened h l = if_some i f o p (cut (fixed_rule n) b k p) (let c = (fixed_cut n b k p l).0 in omega arith)
+
+-- In a list of entries of n bytes, entry i begins n bytes before the next, and lies where the list does.
+pub next_place : (n first i : ℕ) → first + (i + 1) * n ≡ first + i * n + n
+next_place n first i = let m = suc-mul i n in omega arith
+
+pub in_place : (n first i count : ℕ) {k : ℕ} → first + count * n ≤ k → i < count → first + i * n + n ≤ k
+in_place n first i count h l = let m = mul-le-mul_right {m = i + 1} {n = count} n (omega arith) in omega (arith, suc-mul i n)

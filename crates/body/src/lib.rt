@@ -2,13 +2,16 @@
 // attached routers, and the bytes that are left of a body. Lists are in `list`.
 #![tactic(auto, unfolding(format::specs::Strip::code, format::specs::Strip::encode, format::specs::Body::leftover, format::specs::Body::attached_router, format::specs::Body::whole))]
 
-ghost use Rattle.std.specs.Prelude.{◌≡◌, ℕ, ◌+◌, ◌-◌, ◌*◌, ◌/◌, ◌≤◌, ◌<◌, length};
-ghost use Rattle.format.specs.Strip.{encode};
+ghost use Rattle.std.specs.Prelude.{◌≡◌, ℕ, ◌-◌, ◌≤◌, ◌<◌, List, length};
+ghost use Rattle.std.proofs.Common.{rules};
+ghost use Rattle.format.specs.Strip.{Entry, encode};
 ghost use Rattle.format.specs.Cut.{after};
 ghost use Rattle.format.specs.Body.{leftover, listing, whole, router_flags, attached_router};
+ghost use Rattle.body.specs.Answers.{measured_of};
+ghost use Rattle.body.specs.List.{followed};
 ghost use Rattle.strip_put.specs.Writer.{HasRoom, Writes};
 
-use list::{Item, MeasuredList, measure_array, push_array};
+use list::{Item, measure_whole, push_array};
 use strip_ids::ATTACHED_ROUTER;
 use strip_ids::kind::{BYTES_LENGTH, IPV4_LENGTH, U8_LENGTH};
 use strip_push::field::{Ipv4, U8};
@@ -96,9 +99,11 @@ impl Item for AttachedRouter {
         push_at::<Ipv4>(strip, ATTACHED_ROUTER, body, p);
     }
 
-    fn measure(_body: &[u8], _p: usize) -> usize {
+    fn measure(_body: Part, _p: usize) -> usize {
         IPV4_LENGTH
     }
+
+    ghost size_nonzero = { Prim.search rules };
 }
 
 // Their array holds as many as the body from 4 on. Answers the place where it ends.
@@ -111,13 +116,10 @@ pub fn push_attached_routers(strip: &mut Writer, id: u8, body: Part) -> usize
     push_array::<AttachedRouter>(strip, id, body, 4, (body.len() - 4) / 4)
 }
 
-// The length of that array, under any id and wherever the body lies, and the place where it ends.
-pub fn measure_attached_routers(body: &[u8]) -> MeasuredList
-    requires in_bounds { 4 ≤ length body.now }
-    requires body_len_bound { length body.now < 65536 }
-    ensures by_index { (i o : ℕ) → result.length ≡ length (encode (listing i (attached_router body.now o) o 4 (whole 4 body.now 4))) }
-    ensures end_value { result.end ≡ after 4 (whole 4 body.now 4) }
-    ensures length_bound { result.length ≤ 11 + 64 * length body.now }
+// A Network-LSA that is measured: a part of 4 bytes whose entries take so much in a strip, and the array of its routers.
+pub fn measure_network_lsa(body: Part, fixed: usize) -> Measured
+    requires { fixed < 65536 }
+    ensures { (id o : ℕ) (es : List Entry) → length (encode es) ≡ fixed → result ≡ measured_of (followed 4 es id 4 (attached_router body.entry.bytes.now o) body.entry.bytes.now o) }
 {
-    measure_array::<AttachedRouter>(body, 4, (body.len() - 4) / 4)
+    measure_whole::<AttachedRouter>(body, 4, fixed)
 }

@@ -5,10 +5,12 @@ ghost use mathlib.Core.List.{flat_map};
 ghost use Rattle.format.specs.Strip.{Entry, encode};
 ghost use Rattle.format.specs.Cut.{Rule, Span, cut, after, fixed_rule};
 ghost use Rattle.format.specs.Body.{listing, listing_if_any};
-ghost use Rattle.body.specs.List.{span};
+ghost use Rattle.body.specs.Answers.{measured_of};
+ghost use Rattle.body.specs.List.{followed, span};
 ghost use Rattle.strip_put.specs.Writer.{HasRoom, Writes};
 ghost use Rattle.util.specs.Answers.{option_of};
 
+use crate::Measured;
 use strip_ids::kind::{CONTAINER_LENGTH, OPEN_LENGTH};
 use strip_push::{begin_container, end_container};
 use strip_put::{Part, Writer};
@@ -31,10 +33,9 @@ pub trait Record {
         ensures { Writes strip.old (encode (entries body.entry.bytes.now body.entry.offset (span p n))) strip.new };
 
     // The length of what `push` writes, wherever the body lies.
-    fn measure(body: &[u8], p: usize, n: usize) -> usize
-        requires stands { rule body.now p ≡ some n }
-        requires body_len_bound { length body.now < 65536 }
-        ensures by_index { (o : ℕ) → result ≡ length (encode (entries body.now o (span p n))) }
+    fn measure(body: Part, p: usize, n: usize) -> usize
+        requires { rule body.bytes.now p ≡ some n }
+        ensures by_index { (o : ℕ) → result ≡ length (encode (entries body.entry.bytes.now o (span p n))) }
         ensures upper_bound { result ≤ 32 * n };
 
     // An entry that stands lies in the body.
@@ -54,10 +55,12 @@ pub trait Item {
         requires in_bounds { p + SIZE ≤ length body.bytes.now }
         ensures { Writes strip.old (encode (entries body.entry.bytes.now body.entry.offset (span p SIZE))) strip.new };
 
-    fn measure(body: &[u8], p: usize) -> usize
-        requires { p + SIZE ≤ length body.now }
-        ensures by_index { (o : ℕ) → result ≡ length (encode (entries body.now o (span p SIZE))) }
+    fn measure(body: Part, p: usize) -> usize
+        requires { p + SIZE ≤ length body.bytes.now }
+        ensures by_index { (o : ℕ) → result ≡ length (encode (entries body.entry.bytes.now o (span p SIZE))) }
         ensures upper_bound { result ≤ 256 };
+
+    ghost size_nonzero: { 0 < SIZE };
 }
 
 // A list that is measured: the length of its entries in a strip, their number, and where in the body they end.
@@ -92,14 +95,13 @@ pub fn push_records<R: Record>(strip: &mut Writer, body: Part, first: usize, cou
     }
 }
 
-pub fn measure_records<R: Record>(body: &[u8], first: usize, count: u32) -> MeasuredList
-    requires first_in_bounds { first ≤ length body.now }
-    requires body_len_bound { length body.now < 65536 }
-    ensures by_index { (o : ℕ) → result.length ≡ length (encode (flat_map (R.entries body.now o) (cut R.rule body.now count first))) }
-    ensures count_value { result.count ≡ length (cut R.rule body.now count first) }
-    ensures end_value { result.end ≡ after first (cut R.rule body.now count first) }
-    ensures end_in_bounds { result.end ≤ length body.now }
-    ensures length_bound { result.length ≤ 32 * length body.now }
+pub fn measure_records<R: Record>(body: Part, first: usize, count: u32) -> MeasuredList
+    requires { first ≤ length body.bytes.now }
+    ensures by_index { (o : ℕ) → result.length ≡ length (encode (flat_map (R.entries body.entry.bytes.now o) (cut R.rule body.entry.bytes.now count first))) }
+    ensures count_value { result.count ≡ length (cut R.rule body.entry.bytes.now count first) }
+    ensures end_value { result.end ≡ after first (cut R.rule body.entry.bytes.now count first) }
+    ensures end_in_bounds { result.end ≤ length body.entry.bytes.now }
+    ensures length_bound { result.length ≤ 32 * length body.entry.bytes.now }
 {
     let mut list = MeasuredList {
         length: 0,
@@ -107,7 +109,7 @@ pub fn measure_records<R: Record>(body: &[u8], first: usize, count: u32) -> Meas
         end: first,
     };
     for _ in 0..count {
-        let Some(n) = R::fits(body, list.end) else {
+        let Some(n) = R::fits(body.bytes, list.end) else {
             break;
         };
         list.length += R::measure(body, list.end, n);
@@ -142,14 +144,13 @@ pub fn push_list<R: Record>(
 }
 
 // The length of such an array, under any id, and the rest as of its list.
-pub fn measure_list<R: Record>(body: &[u8], first: usize, count: u32) -> MeasuredList
-    requires first_in_bounds { first ≤ length body.now }
-    requires body_len_bound { length body.now < 65536 }
-    ensures by_index { (id o : ℕ) → result.length ≡ length (encode (listing id (R.entries body.now o) o first (cut R.rule body.now count first))) }
-    ensures count_value { result.count ≡ length (cut R.rule body.now count first) }
-    ensures end_value { result.end ≡ after first (cut R.rule body.now count first) }
-    ensures end_in_bounds { result.end ≤ length body.now }
-    ensures length_bound { result.length ≤ 11 + 32 * length body.now }
+pub fn measure_list<R: Record>(body: Part, first: usize, count: u32) -> MeasuredList
+    requires { first ≤ length body.bytes.now }
+    ensures by_index { (id o : ℕ) → result.length ≡ length (encode (listing id (R.entries body.entry.bytes.now o) o first (cut R.rule body.entry.bytes.now count first))) }
+    ensures count_value { result.count ≡ length (cut R.rule body.entry.bytes.now count first) }
+    ensures end_value { result.end ≡ after first (cut R.rule body.entry.bytes.now count first) }
+    ensures end_in_bounds { result.end ≤ length body.entry.bytes.now }
+    ensures length_bound { result.length ≤ 11 + 32 * length body.entry.bytes.now }
 {
     let list = measure_records::<R>(body, first, count);
     MeasuredList {
@@ -164,24 +165,19 @@ pub fn push_items<I: Item>(strip: &mut Writer, body: Part, first: usize, count: 
     requires in_bounds { first + count * I.SIZE ≤ length body.bytes.now }
     ensures { Writes strip.old (encode (flat_map (I.entries body.entry.bytes.now body.entry.offset) (cut (fixed_rule I.SIZE) body.entry.bytes.now count first))) strip.new }
 {
-    let mut pos = first;
-    for _ in 0..count {
-        I::push(strip, body, pos);
-        pos += I::SIZE;
+    for i in 0..count {
+        I::push(strip, body, first + i * I::SIZE);
     }
 }
 
-pub fn measure_items<I: Item>(body: &[u8], first: usize, count: usize) -> usize
-    requires in_bounds { first + count * I.SIZE ≤ length body.now }
-    requires count_bound { count < 65536 }
-    ensures by_index { (o : ℕ) → result ≡ length (encode (flat_map (I.entries body.now o) (cut (fixed_rule I.SIZE) body.now count first))) }
+pub fn measure_items<I: Item>(body: Part, first: usize, count: usize) -> usize
+    requires { first + count * I.SIZE ≤ length body.bytes.now }
+    ensures by_index { (o : ℕ) → result ≡ length (encode (flat_map (I.entries body.entry.bytes.now o) (cut (fixed_rule I.SIZE) body.entry.bytes.now count first))) }
     ensures upper_bound { result ≤ count * 256 }
 {
     let mut length = 0;
-    let mut pos = first;
-    for _ in 0..count {
-        length += I::measure(body, pos);
-        pos += I::SIZE;
+    for i in 0..count {
+        length += I::measure(body, first + i * I::SIZE);
     }
     length
 }
@@ -225,13 +221,12 @@ pub fn push_array_if_any<I: Item>(
     push_array::<I>(strip, id, body, first, count)
 }
 
-pub fn measure_array<I: Item>(body: &[u8], first: usize, count: usize) -> MeasuredList
-    requires in_bounds { first + count * I.SIZE ≤ length body.now }
-    requires count_bound { count < 65536 }
-    ensures by_index { (id o : ℕ) → result.length ≡ length (encode (listing id (I.entries body.now o) o first (cut (fixed_rule I.SIZE) body.now count first))) }
+pub fn measure_array<I: Item>(body: Part, first: usize, count: usize) -> MeasuredList
+    requires { first + count * I.SIZE ≤ length body.bytes.now }
+    ensures by_index { (id o : ℕ) → result.length ≡ length (encode (listing id (I.entries body.entry.bytes.now o) o first (cut (fixed_rule I.SIZE) body.entry.bytes.now count first))) }
     ensures count_value { result.count ≡ count }
-    ensures end_value { result.end ≡ after first (cut (fixed_rule I.SIZE) body.now count first) }
-    ensures end_in_bounds { result.end ≤ length body.now }
+    ensures end_value { result.end ≡ after first (cut (fixed_rule I.SIZE) body.entry.bytes.now count first) }
+    ensures end_in_bounds { result.end ≤ length body.entry.bytes.now }
     ensures upper_bound { result.length ≤ 11 + count * 256 }
 {
     MeasuredList {
@@ -241,13 +236,12 @@ pub fn measure_array<I: Item>(body: &[u8], first: usize, count: usize) -> Measur
     }
 }
 
-pub fn measure_array_if_any<I: Item>(body: &[u8], first: usize, count: usize) -> MeasuredList
-    requires in_bounds { first + count * I.SIZE ≤ length body.now }
-    requires count_bound { count < 65536 }
-    ensures by_index { (id o : ℕ) → result.length ≡ length (encode (listing_if_any id (I.entries body.now o) o first (cut (fixed_rule I.SIZE) body.now count first))) }
+pub fn measure_array_if_any<I: Item>(body: Part, first: usize, count: usize) -> MeasuredList
+    requires { first + count * I.SIZE ≤ length body.bytes.now }
+    ensures by_index { (id o : ℕ) → result.length ≡ length (encode (listing_if_any id (I.entries body.entry.bytes.now o) o first (cut (fixed_rule I.SIZE) body.entry.bytes.now count first))) }
     ensures count_value { result.count ≡ count }
-    ensures end_value { result.end ≡ after first (cut (fixed_rule I.SIZE) body.now count first) }
-    ensures end_in_bounds { result.end ≤ length body.now }
+    ensures end_value { result.end ≡ after first (cut (fixed_rule I.SIZE) body.entry.bytes.now count first) }
+    ensures end_in_bounds { result.end ≤ length body.entry.bytes.now }
     ensures upper_bound { result.length ≤ 11 + count * 256 }
 {
     if count == 0 {
@@ -258,4 +252,19 @@ pub fn measure_array_if_any<I: Item>(body: &[u8], first: usize, count: usize) ->
         };
     }
     measure_array::<I>(body, first, count)
+}
+
+// A body of a fixed part whose entries take so much in a strip, and then an array of as many entries as it holds.
+pub fn measure_whole<I: Item>(body: Part, first: usize, fixed: usize) -> Measured
+    requires { fixed < 65536 }
+    ensures { (id o : ℕ) (es : List Entry) → length (encode es) ≡ fixed → result ≡ measured_of (followed first es id I.SIZE (I.entries body.entry.bytes.now o) body.entry.bytes.now o) }
+{
+    if body.len() < first {
+        return Measured::Raw;
+    }
+    let array = measure_array::<I>(body, first, (body.len() - first) / I::SIZE);
+    Measured::Decoded {
+        length: fixed + array.length,
+        consumed: array.end,
+    }
 }

@@ -84,9 +84,6 @@ pub sums_are : (lsa : List ℕ) → sums lsa ≡ residues (octet_sum (drop 2 lsa
 unfolding sums
 sums_are lsa = running_is 0 0 (drop 2 lsa) ∙ same_sums (omega arith) (omega arith)
 
-pub sums_small : (lsa : List ℕ) → ((sums lsa).c0 < 255) × ((sums lsa).c1 < 255)
-sums_small lsa = rw (sums_are lsa) (omega arith)
-
 -- That sum and that of the octets by their positions.
 pub both_ways : (i : ℕ) (l : List ℕ) → weighted l + position_sum i l ≡ (length l + i) * octet_sum l
 unfolding octet_sum position_sum weighted

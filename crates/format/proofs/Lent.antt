@@ -6,8 +6,8 @@ use native.Mathlib.Omega.{arith}
 use mathlib.Core.Path.{◌≡◌, refl, ap, ◌∙◌}
 use mathlib.Core.List.{List, ◌++◌, flat_map}
 use mathlib.Core.Option.{some}
-use lib.ListN.{length, get_or, take, drop, length-drop}
-use lib.Seq.{get_or-take, get_or-drop}
+use lib.ListN.{length, get_or, drop, length-drop}
+use lib.Seq.{get_or-drop}
 use Rattle.format.specs.Bytes.{be16_at, be32_at}
 use Rattle.format.specs.Strip.{Entry, container, u8_at, u16_at, wide16_at, ip4_at}
 use Rattle.format.specs.Cut.{cut, link_rule, fixed_rule}
@@ -24,9 +24,6 @@ Same l b p n = (k : ℕ) → k + 1 ≤ n → get_or l k 0 ≡ get_or b (p + k) 0
 
 pub from_place : (b : List ℕ) (p n : ℕ) → Same (drop p b) b p n
 from_place b p n k h = get_or-drop p b k 0
-
-pub of_part : (b : List ℕ) (p n : ℕ) → Same (take n (drop p b)) b p n
-of_part b p n k h = get_or-take n (drop p b) k 0 (omega arith) ∙ get_or-drop p b k 0
 
 module _ (l b : List ℕ) (o p n : ℕ) (same : Same l b p n) where
   two : (k : ℕ) → k + 2 ≤ n → be16_at l k ≡ be16_at b (p + k)

@@ -1,15 +1,13 @@
 -- Bytes that are the same: what it means, and how they are compared one by one or part by part.
-use Prim.Native.Nat.{ℕ, ◌+◌, ◌≤◌, ◌<◌}
-use native.Mathlib.Numerals.{add-one}
+use Prim.Native.Nat.{ℕ}
 use native.Mathlib.Omega.{arith}
-use mathlib.Core.Path.{◌≡◌, refl, sym, ◌∙◌}
+use mathlib.Core.Path.{◌≡◌, refl, sym}
 use mathlib.Core.Bool.{Bool, true, false, cond, ◌&&◌}
 use mathlib.Core.List.{List, [], ◌∷◌, ◌++◌}
-use lib.ListN.{length, get_or, take, drop, drop_of_length-le}
-use lib.Seq.{drop-cons}
+use lib.ListN.{length, take, drop}
 use lib.Dec.{eqb}
 use lib.Pointwise.{pointwise}
-use borrow.Author.Tests.{eq-eqb, ne_eqb, eqb-true}
+use borrow.Author.Tests.{eq-eqb, eqb-true}
 use Rattle.std.specs.Prelude.{IsTrue, ◌↔◌}
 use Rattle.format.specs.Bytes.{same_bytes}
 
@@ -28,23 +26,6 @@ pub same_bytes_self : (xs : List ℕ) → same_bytes xs xs ≡ true
 unfolding same_bytes
 same_bytes_self [] = refl
 same_bytes_self (x ∷ xs) = rw (eq-eqb x x refl) (same_bytes_self xs)
-
--- Two lists, compared from the place i on.
-module _ (a b : List ℕ) (i : ℕ) (h : i < length a) (k : i < length b) where
-  heads : same_bytes (drop i a) (drop i b) ≡ cond (eqb (get_or a i 0) (get_or b i 0)) (same_bytes (drop (i + 1) a) (drop (i + 1) b)) false
-  unfolding same_bytes
-  heads = rw (drop-cons a i 0, drop-cons b i 0, add-one i)
-
-  -- the bytes at i agree: the rest decides
-  pub same_next : get_or a i 0 ≡ get_or b i 0 → same_bytes (drop i a) (drop i b) ≡ same_bytes (drop (i + 1) a) (drop (i + 1) b)
-  same_next e = heads ∙ rw (eq-eqb (get_or a i 0) (get_or b i 0) e)
-
-  pub same_stops : (get_or a i 0 ≡ get_or b i 0 → ⊥) → same_bytes (drop i a) (drop i b) ≡ false
-  same_stops e = heads ∙ rw (ne_eqb (get_or a i 0) (get_or b i 0) e)
-
-pub same_end : (a b : List ℕ) (i : ℕ) → length a ≤ i → length b ≤ i → same_bytes (drop i a) (drop i b) ≡ true
-unfolding same_bytes
-same_end a b i h k = rw (drop_of_length-le a h, drop_of_length-le b k)
 
 -- two parts after each other, the first as long as x
 pub same_parts : (s x y : List ℕ) → same_bytes s (x ++ y) ≡ cond (same_bytes (take (length x) s) x) (same_bytes (drop (length x) s) y) false

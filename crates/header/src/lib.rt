@@ -3,20 +3,22 @@
 #![tactic(auto, unfolding(format::specs::Strip::code, format::specs::Strip::encode, format::specs::Header::header_entries2, format::specs::Header::header_entries3))]
 
 ghost use Rattle.std.specs.Prelude.{◌≡◌, ◌≤◌, length};
-ghost use Rattle.format.specs.Header.{header_size, max_age, instance_entries, header2, header3, header_with, read_header, newness, newness_at, aged, younger};
+ghost use Rattle.format.specs.Header.{max_age, instance_entries, read_header, newness, newness_at, aged, younger};
 ghost use Rattle.format.specs.Strip.{encode};
 ghost use Rattle.header.specs.Answers.{meaning, reading_meaning, newness_meaning};
 ghost use Rattle.strip_put.specs.Writer.{HasRoom, Writes};
 
+pub use part::LsaPart;
 use refusal::Refusal;
 use std::cmp::Ordering;
 use strip_ids::kind::{U16_LENGTH, U32_LENGTH};
 use strip_push::field::{U16, U32};
 use strip_push::push_at;
-use strip_put::{Part, Writer};
+use strip_put::Writer;
 use util::{read_be_u16, read_be_u32, read_ipv4_addr};
 use walk_answer::is_known;
 
+mod part;
 pub mod v2;
 pub mod v3;
 
@@ -82,42 +84,20 @@ impl LsaHeader {
         if bytes.len() < LsaHeader::SIZE {
             return Err(Refusal::TooLittle);
         }
-        Ok(if version == 2 {
-            LsaHeader::v2(bytes)
+        let ls_type = if version == 2 {
+            u16::from(bytes[LsaHeader::V2_TYPE_AT])
         } else {
-            LsaHeader::v3(bytes)
-        })
-    }
-
-    // The header of a version 2 LSA (RFC 2328 A.4.1).
-    fn v2(body: &[u8]) -> LsaHeader
-        requires { header_size ≤ length body.now }
-        ensures { meaning result ≡ header2 body.now }
-    {
-        LsaHeader::with_type(body[LsaHeader::V2_TYPE_AT] as u16, body)
-    }
-
-    // The header of a version 3 LSA (RFC 5340 A.4.2).
-    fn v3(body: &[u8]) -> LsaHeader
-        requires { header_size ≤ length body.now }
-        ensures { meaning result ≡ header3 body.now }
-    {
-        LsaHeader::with_type(read_be_u16(body, LsaHeader::V3_TYPE_AT), body)
-    }
-
-    fn with_type(ls_type: u16, body: &[u8]) -> LsaHeader
-        requires { header_size ≤ length body.now }
-        ensures { meaning result ≡ header_with ls_type body.now }
-    {
-        LsaHeader {
-            age: read_be_u16(body, LsaHeader::AGE_AT),
+            read_be_u16(bytes, LsaHeader::V3_TYPE_AT)
+        };
+        Ok(LsaHeader {
+            age: read_be_u16(bytes, LsaHeader::AGE_AT),
             ls_type,
-            link_state_id: read_be_u32(body, LsaHeader::LINK_STATE_ID_AT),
-            advertising_router: read_ipv4_addr(body, LsaHeader::ADVERTISING_ROUTER_AT),
-            sequence_number: read_be_u32(body, LsaHeader::SEQUENCE_NUMBER_AT),
-            checksum: read_be_u16(body, LsaHeader::CHECKSUM_AT),
-            length: read_be_u16(body, LsaHeader::LENGTH_AT),
-        }
+            link_state_id: read_be_u32(bytes, LsaHeader::LINK_STATE_ID_AT),
+            advertising_router: read_ipv4_addr(bytes, LsaHeader::ADVERTISING_ROUTER_AT),
+            sequence_number: read_be_u32(bytes, LsaHeader::SEQUENCE_NUMBER_AT),
+            checksum: read_be_u16(bytes, LsaHeader::CHECKSUM_AT),
+            length: read_be_u16(bytes, LsaHeader::LENGTH_AT),
+        })
     }
 }
 
@@ -125,15 +105,14 @@ impl LsaHeader {
 const INSTANCE_LENGTH: usize = U32_LENGTH + 2 * U16_LENGTH;
 
 // LS sequence number, LS checksum and length, whose ids follow one another from id on.
-fn push_instance_fields(strip: &mut Writer, id: u8, lsa: Part)
-    requires room { HasRoom strip.old (length (encode (instance_entries id lsa.bytes.now lsa.offset))) }
+fn push_instance_fields(strip: &mut Writer, id: u8, lsa: LsaPart)
+    requires room { HasRoom strip.old (length (encode (instance_entries id lsa.part.bytes.now lsa.part.offset))) }
     requires id_bound { id ≤ 5 }
-    requires header_size_in_bounds { header_size ≤ length lsa.bytes.now }
-    ensures { Writes strip.old (encode (instance_entries id lsa.entry.bytes.now lsa.entry.offset)) strip.new }
+    ensures { Writes strip.old (encode (instance_entries id lsa.entry.part.bytes.now lsa.entry.part.offset)) strip.new }
 {
-    push_at::<U32>(strip, id, lsa, LsaHeader::SEQUENCE_NUMBER_AT);
-    push_at::<U16>(strip, id + 1, lsa, LsaHeader::CHECKSUM_AT);
-    push_at::<U16>(strip, id + 2, lsa, LsaHeader::LENGTH_AT);
+    push_at::<U32>(strip, id, lsa.part, LsaHeader::SEQUENCE_NUMBER_AT);
+    push_at::<U16>(strip, id + 1, lsa.part, LsaHeader::CHECKSUM_AT);
+    push_at::<U16>(strip, id + 2, lsa.part, LsaHeader::LENGTH_AT);
 }
 
 // Which of two LSAs of one version, given by their bytes, is newer.

@@ -4,12 +4,12 @@ ghost use Rattle.format.specs.Header.{header_size, header_entries2, identity_ent
 ghost use Rattle.format.specs.Strip.{encode};
 ghost use Rattle.strip_put.specs.Writer.{HasRoom, Writes};
 
-use crate::{INSTANCE_LENGTH, LsaHeader, push_instance_fields};
+use crate::{INSTANCE_LENGTH, LsaHeader, LsaPart, push_instance_fields};
 use strip_ids::kind::{IPV4_LENGTH, U8_LENGTH, U16_LENGTH, U32_LENGTH};
 use strip_ids::v2;
 use strip_push::field::{Ipv4, U8, U16, U24};
 use strip_push::push_at;
-use strip_put::{Part, Writer};
+use strip_put::Writer;
 
 // How long a header's fields are in a strip, and those of an opaque LSA's.
 const FIELDS_LENGTH: usize = U16_LENGTH + 2 * U8_LENGTH + 2 * IPV4_LENGTH + INSTANCE_LENGTH;
@@ -23,12 +23,12 @@ pub fn is_opaque(ls_type: u8) -> bool
 }
 
 // The length of what `push_lsa_header_fields` writes, wherever the header lies.
-pub fn measure_lsa_header_fields(body: &[u8]) -> usize
-    requires { header_size ≤ length body.now }
-    ensures by_index { (o : ℕ) → result ≡ length (encode (header_entries2 body.now o)) }
+pub fn measure_lsa_header_fields(lsa: &[u8]) -> usize
+    requires { header_size ≤ length lsa.now }
+    ensures by_index { (o : ℕ) → result ≡ length (encode (header_entries2 lsa.now o)) }
     ensures upper_bound { result ≤ 125 }
 {
-    if is_opaque(body[LsaHeader::V2_TYPE_AT]) {
+    if is_opaque(lsa[LsaHeader::V2_TYPE_AT]) {
         OPAQUE_FIELDS_LENGTH
     } else {
         FIELDS_LENGTH
@@ -36,41 +36,48 @@ pub fn measure_lsa_header_fields(body: &[u8]) -> usize
 }
 
 #[inline(always)]
-pub fn push_lsa_header_fields(strip: &mut Writer, lsa: Part)
-    requires room { HasRoom strip.old (length (encode (header_entries2 lsa.bytes.now lsa.offset))) }
-    requires header_size_in_bounds { header_size ≤ length lsa.bytes.now }
-    ensures { Writes strip.old (encode (header_entries2 lsa.entry.bytes.now lsa.entry.offset)) strip.new }
+pub fn push_lsa_header_fields(strip: &mut Writer, lsa: LsaPart)
+    requires { HasRoom strip.old (length (encode (header_entries2 lsa.part.bytes.now lsa.part.offset))) }
+    ensures { Writes strip.old (encode (header_entries2 lsa.entry.part.bytes.now lsa.entry.part.offset)) strip.new }
 {
     push_identity_fields(strip, lsa);
     push_instance_fields(strip, v2::LS_SEQUENCE_NUMBER, lsa);
-    if is_opaque(lsa.bytes[LsaHeader::V2_TYPE_AT]) {
+    if is_opaque(lsa.part.bytes[LsaHeader::V2_TYPE_AT]) {
         push_opaque_fields(strip, lsa);
     }
 }
 
-fn push_identity_fields(strip: &mut Writer, lsa: Part)
-    requires room { HasRoom strip.old (length (encode (identity_entries2 lsa.bytes.now lsa.offset))) }
-    requires header_size_in_bounds { header_size ≤ length lsa.bytes.now }
-    ensures { Writes strip.old (encode (identity_entries2 lsa.entry.bytes.now lsa.entry.offset)) strip.new }
+fn push_identity_fields(strip: &mut Writer, lsa: LsaPart)
+    requires { HasRoom strip.old (length (encode (identity_entries2 lsa.part.bytes.now lsa.part.offset))) }
+    ensures { Writes strip.old (encode (identity_entries2 lsa.entry.part.bytes.now lsa.entry.part.offset)) strip.new }
 {
-    push_at::<U16>(strip, v2::LS_AGE, lsa, LsaHeader::AGE_AT);
-    push_at::<U8>(strip, v2::OPTIONS, lsa, LsaHeader::V2_OPTIONS_AT);
-    push_at::<U8>(strip, v2::LS_TYPE, lsa, LsaHeader::V2_TYPE_AT);
-    push_at::<Ipv4>(strip, v2::LINK_STATE_ID, lsa, LsaHeader::LINK_STATE_ID_AT);
+    push_at::<U16>(strip, v2::LS_AGE, lsa.part, LsaHeader::AGE_AT);
+    push_at::<U8>(strip, v2::OPTIONS, lsa.part, LsaHeader::V2_OPTIONS_AT);
+    push_at::<U8>(strip, v2::LS_TYPE, lsa.part, LsaHeader::V2_TYPE_AT);
+    push_at::<Ipv4>(
+        strip,
+        v2::LINK_STATE_ID,
+        lsa.part,
+        LsaHeader::LINK_STATE_ID_AT,
+    );
     push_at::<Ipv4>(
         strip,
         v2::ADVERTISING_ROUTER,
-        lsa,
+        lsa.part,
         LsaHeader::ADVERTISING_ROUTER_AT,
     );
 }
 
 // The Link State ID of an opaque LSA, as its two parts.
-fn push_opaque_fields(strip: &mut Writer, lsa: Part)
-    requires room { HasRoom strip.old (length (encode (opaque_entries lsa.bytes.now lsa.offset))) }
-    requires header_size_in_bounds { header_size ≤ length lsa.bytes.now }
-    ensures { Writes strip.old (encode (opaque_entries lsa.entry.bytes.now lsa.entry.offset)) strip.new }
+fn push_opaque_fields(strip: &mut Writer, lsa: LsaPart)
+    requires { HasRoom strip.old (length (encode (opaque_entries lsa.part.bytes.now lsa.part.offset))) }
+    ensures { Writes strip.old (encode (opaque_entries lsa.entry.part.bytes.now lsa.entry.part.offset)) strip.new }
 {
-    push_at::<U8>(strip, v2::OPAQUE_TYPE, lsa, LsaHeader::V2_OPAQUE_TYPE_AT);
-    push_at::<U24>(strip, v2::OPAQUE_ID, lsa, LsaHeader::V2_OPAQUE_ID_AT);
+    push_at::<U8>(
+        strip,
+        v2::OPAQUE_TYPE,
+        lsa.part,
+        LsaHeader::V2_OPAQUE_TYPE_AT,
+    );
+    push_at::<U24>(strip, v2::OPAQUE_ID, lsa.part, LsaHeader::V2_OPAQUE_ID_AT);
 }

@@ -1,15 +1,15 @@
 // The entries of a version 3 LSA header (RFC 5340 A.4.2).
 ghost use Rattle.std.specs.Prelude.{◌≡◌, ℕ, ◌≤◌, List, length};
-ghost use Rattle.format.specs.Header.{header_size, header_entries3, identity_entries3};
+ghost use Rattle.format.specs.Header.{header_entries3, identity_entries3};
 ghost use Rattle.format.specs.Strip.{encode};
 ghost use Rattle.strip_put.specs.Writer.{HasRoom, Writes};
 
-use crate::{INSTANCE_LENGTH, LsaHeader, push_instance_fields};
+use crate::{INSTANCE_LENGTH, LsaHeader, LsaPart, push_instance_fields};
 use strip_ids::kind::{IPV4_LENGTH, U16_LENGTH, U32_LENGTH};
 use strip_ids::v3;
 use strip_push::field::{Ipv4, U16, U32};
 use strip_push::push_at;
-use strip_put::{Part, Writer};
+use strip_put::Writer;
 
 // How long a header's fields are in a strip.
 const FIELDS_LENGTH: usize = 2 * U16_LENGTH + U32_LENGTH + IPV4_LENGTH + INSTANCE_LENGTH;
@@ -23,27 +23,30 @@ pub fn measure_lsa_header_fields() -> usize
 }
 
 #[inline(always)]
-pub fn push_lsa_header_fields(strip: &mut Writer, lsa: Part)
-    requires room { HasRoom strip.old (length (encode (header_entries3 lsa.bytes.now lsa.offset))) }
-    requires header_size_in_bounds { header_size ≤ length lsa.bytes.now }
-    ensures { Writes strip.old (encode (header_entries3 lsa.entry.bytes.now lsa.entry.offset)) strip.new }
+pub fn push_lsa_header_fields(strip: &mut Writer, lsa: LsaPart)
+    requires { HasRoom strip.old (length (encode (header_entries3 lsa.part.bytes.now lsa.part.offset))) }
+    ensures { Writes strip.old (encode (header_entries3 lsa.entry.part.bytes.now lsa.entry.part.offset)) strip.new }
 {
     push_identity_fields(strip, lsa);
     push_instance_fields(strip, v3::LS_SEQUENCE_NUMBER, lsa);
 }
 
-fn push_identity_fields(strip: &mut Writer, lsa: Part)
-    requires room { HasRoom strip.old (length (encode (identity_entries3 lsa.bytes.now lsa.offset))) }
-    requires header_size_in_bounds { header_size ≤ length lsa.bytes.now }
-    ensures { Writes strip.old (encode (identity_entries3 lsa.entry.bytes.now lsa.entry.offset)) strip.new }
+fn push_identity_fields(strip: &mut Writer, lsa: LsaPart)
+    requires { HasRoom strip.old (length (encode (identity_entries3 lsa.part.bytes.now lsa.part.offset))) }
+    ensures { Writes strip.old (encode (identity_entries3 lsa.entry.part.bytes.now lsa.entry.part.offset)) strip.new }
 {
-    push_at::<U16>(strip, v3::LS_AGE, lsa, LsaHeader::AGE_AT);
-    push_at::<U16>(strip, v3::LS_TYPE, lsa, LsaHeader::V3_TYPE_AT);
-    push_at::<U32>(strip, v3::LINK_STATE_ID, lsa, LsaHeader::LINK_STATE_ID_AT);
+    push_at::<U16>(strip, v3::LS_AGE, lsa.part, LsaHeader::AGE_AT);
+    push_at::<U16>(strip, v3::LS_TYPE, lsa.part, LsaHeader::V3_TYPE_AT);
+    push_at::<U32>(
+        strip,
+        v3::LINK_STATE_ID,
+        lsa.part,
+        LsaHeader::LINK_STATE_ID_AT,
+    );
     push_at::<Ipv4>(
         strip,
         v3::ADVERTISING_ROUTER,
-        lsa,
+        lsa.part,
         LsaHeader::ADVERTISING_ROUTER_AT,
     );
 }

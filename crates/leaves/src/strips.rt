@@ -17,29 +17,17 @@ use strip_step::{Entry, step_at};
 
 pub fn run(to: &mut impl Write) -> io::Result<()> {
     let mut strip = [0u8; 126];
-    kinds(&mut Writer {
-        buffer: &mut strip,
-        at: 0,
-    });
+    kinds(&mut Writer::new(&mut strip, 0));
     word(to, b"kinds\n")?;
     print_strip(to, &strip)?;
     let mut fields = [0u8; 195];
     let body = b"\xfe\xdc\xba\x98\x76\x54\x32\x10\x01\x23\x45\x67\x89\xab\xcd\xef\x85";
-    leaves(
-        &mut Writer {
-            buffer: &mut fields,
-            at: 0,
-        },
-        Part::new(body, 1000),
-    );
+    leaves(&mut Writer::new(&mut fields, 0), Part::new(body, 1000));
     word(to, b"leaves\n")?;
     print_strip(to, &fields)?;
     let mut costs = [0u8; 70];
     metrics(
-        &mut Writer {
-            buffer: &mut costs,
-            at: 0,
-        },
+        &mut Writer::new(&mut costs, 0),
         Part::new(b"\x00\xff\xff\xff\xfe\xff\xff\x00", 1000),
     );
     word(to, b"metrics\n")?;

@@ -27,7 +27,7 @@ pub fn entry_line(out: &mut [u8], entry: Entry) -> usize
     if out.len() < LINE {
         return 0;
     }
-    let mut writer = Writer { buffer: out, at: 0 };
+    let mut writer = Writer::new(out, 0);
     put_line(&mut writer, entry);
     writer.at
 }
@@ -40,7 +40,7 @@ pub fn answer_line(out: &mut [u8], answer: Result<Answer, Refusal>) -> usize
     if out.len() < LINE {
         return 0;
     }
-    let mut writer = Writer { buffer: out, at: 0 };
+    let mut writer = Writer::new(out, 0);
     put_answer(&mut writer, answer);
     writer.at
 }

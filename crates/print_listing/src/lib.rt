@@ -8,7 +8,7 @@ ghost use Rattle.walk_answer.specs.Answers.{answer_meaning};
 
 use print_lines::{LINE, entry_line};
 use refusal::Refusal;
-use strip_reader::step_from;
+use strip_reader::Reader;
 use walk_answer::Answer;
 
 // How many bytes the lines have, and the place of the strip where the next ones begin.
@@ -27,14 +27,14 @@ pub fn put_lines(out: &mut [u8], strip: &[u8], place: usize) -> Lines
     ensures length_in_bounds { (result.length ≤ length out.new) × (result.length ≡ length (take result.length out.new)) }
 {
     let mut length: usize = 0;
-    let mut next = place;
+    let mut reader = Reader { strip, place };
     while LINE <= out.len() - length {
-        let Ok(Some((entry, after))) = step_from(strip, next) else {
+        let Ok(Some((entry, _))) = reader.next() else {
             break;
         };
         length += entry_line(&mut out[length..], entry);
-        next = after;
     }
+    let next = reader.place;
     Lines { length, next }
 }
 

@@ -1,4 +1,4 @@
-// The two arrays of the program. Only their length is told, which lending one as a slice needs.
+// An array of the program. Only its length is told, which lending it as a slice needs.
 ghost use Rattle.std.specs.Prelude.{◌≡◌, length};
 
 // Longer than any file of samples/.
@@ -7,14 +7,8 @@ pub const FILE: usize = 1048576;
 // The length of the longest strip of all: no call needs more room.
 pub const ROOM: usize = 1162790;
 
-pub fn file_buffer() -> [u8; FILE]
-    ensures { 1048576 ≡ length result }
+pub fn buffer<const N: usize>() -> [u8; N]
+    ensures { N ≡ length result }
 {
-    [0; FILE]
-}
-
-pub fn strip_buffer() -> [u8; ROOM]
-    ensures { 1162790 ≡ length result }
-{
-    [0; ROOM]
+    [0; N]
 }

@@ -4,7 +4,7 @@
 
 mod buffers;
 
-use buffers::{FILE, ROOM, file_buffer, strip_buffer};
+use buffers::{FILE, ROOM, buffer};
 use read_input::read_full;
 use replay_tally::{count_calls, count_different, first_different, whole_calls};
 use replay_text::{line, number, word};
@@ -41,7 +41,7 @@ fn replay_argument(files: &impl Files, to: &mut impl Write, path: &[u8]) -> io::
 }
 
 fn replay_file(from: &mut impl Read, to: &mut impl Write) -> io::Result<()> {
-    let mut file = file_buffer();
+    let mut file = buffer::<FILE>();
     let n = read_full(from, &mut file)?;
     if n == FILE {
         return word(to, b"too long\n");
@@ -56,16 +56,12 @@ fn print_calls(to: &mut impl Write, file: &[u8]) -> io::Result<()> {
     word(to, b"calls")?;
     number(to, whole.calls as u64)?;
     line(to)?;
-    word(to, b"headers")?;
-    print_numbers(to, file, 0)?;
-    word(to, b"updates")?;
-    print_numbers(to, file, 1)?;
-    word(to, b"lsas")?;
-    print_numbers(to, file, 2)?;
-    word(to, b"lls")?;
-    print_numbers(to, file, 3)?;
-    word(to, b"trailers")?;
-    print_numbers(to, file, 4)?;
+    // In the order of their numbers.
+    let names: [&[u8]; 5] = [b"headers", b"updates", b"lsas", b"lls", b"trailers"];
+    for (walk, name) in names.into_iter().enumerate() {
+        word(to, name)?;
+        print_numbers(to, file, walk as u8)?;
+    }
     if whole.end == file.len() {
         word(to, b"whole\n")?;
     } else {
@@ -77,18 +73,15 @@ fn print_calls(to: &mut impl Write, file: &[u8]) -> io::Result<()> {
 }
 
 fn print_numbers(to: &mut impl Write, file: &[u8], walk: u8) -> io::Result<()> {
-    number(to, count_calls(file, ROOM, walk, 0) as u64)?;
-    number(to, count_calls(file, ROOM, walk, 1) as u64)?;
-    number(to, count_calls(file, ROOM, walk, 2) as u64)?;
-    number(to, count_calls(file, ROOM, walk, 3) as u64)?;
-    number(to, count_calls(file, ROOM, walk, 4) as u64)?;
-    number(to, count_calls(file, ROOM, walk, 5) as u64)?;
+    for answer in 0..=5 {
+        number(to, count_calls(file, ROOM, walk, answer) as u64)?;
+    }
     line(to)
 }
 
 // How many calls differ, and the index of the first of them.
 fn print_differences(to: &mut impl Write, file: &[u8]) -> io::Result<()> {
-    let mut strip = strip_buffer();
+    let mut strip = buffer::<ROOM>();
     let different = count_different(file, &mut strip);
     word(to, b"different")?;
     number(to, different as u64)?;

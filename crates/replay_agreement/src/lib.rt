@@ -3,11 +3,9 @@
 #![tactic(auto)]
 
 ghost use Rattle.std.specs.Prelude.{◌≡◌, ◌≤◌, length};
-ghost use Rattle.format.specs.Walks.{answer_of, strip_of};
 ghost use Rattle.trailer.specs.Answers.{block_meaning};
-ghost use Rattle.walk_answer.specs.Answers.{answer_meaning};
+ghost use Rattle.walk_answer.specs.Answers.{Promised, answer_meaning};
 ghost use Rattle.replay_call.specs.Stored.{room_at};
-ghost use Rattle.replay_expected.specs.Expected.{lent};
 ghost use Rattle.replay_agreement.specs.Agree.{agrees_at, call_of, left_at, outcome_at};
 ghost use Rattle.replay_agreement.specs.Blocks.{stored};
 
@@ -53,8 +51,7 @@ fn call_by_number(
     offset: u64,
     strip: &mut [u8],
 ) -> Result<Answer, Refusal>
-    ensures value { answer_meaning result ≡ answer_of (call_of version number «data».now count offset) (length strip.old) }
-    ensures strip_after { strip.new ≡ strip_of (call_of version number «data».now count offset) strip.old }
+    ensures { Promised (call_of version number «data».now count offset) strip.old result strip.new }
 {
     match number {
         LLS => stored_answer(push_lls(data, offset, strip)),

@@ -49,10 +49,7 @@ pub fn begin_container(strip: &mut Writer, id: u8, range: Range<u32>)
     requires { HasRoom strip.old 10 }
     ensures { Writes strip.old (code (Entry.opens id range.start range.end)) strip.new }
 {
-    let mut out = Writer {
-        buffer: &mut *strip.buffer,
-        at: strip.at,
-    };
+    let mut out = Writer::new(&mut *strip.buffer, strip.at);
     push_head(&mut out, Kind::Open, id, range);
     strip.at = out.at;
 }
@@ -71,10 +68,7 @@ pub fn push_field(strip: &mut Writer, id: u8, range: Range<u32>, value: FieldVal
     requires { HasRoom strip.old (length (code (entry_of value id range.start range.end))) }
     ensures { Writes strip.old (code (entry_of value id range.start range.end)) strip.new }
 {
-    let mut out = Writer {
-        buffer: &mut *strip.buffer,
-        at: strip.at,
-    };
+    let mut out = Writer::new(&mut *strip.buffer, strip.at);
     push_value(&mut out, id, range, value);
     strip.at = out.at;
 }

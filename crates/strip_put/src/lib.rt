@@ -1,7 +1,7 @@
 // What a strip is made from and where it goes: a part of the packet, which is read, and a lent buffer, which is written.
 #![tactic(auto)]
 
-ghost use Rattle.std.specs.Prelude.{[], ◌∷◌, length};
+ghost use Rattle.std.specs.Prelude.{◌≡◌, [], ◌∷◌, length};
 ghost use Rattle.format.specs.Bytes.{be16, be32, be64};
 ghost use Rattle.strip_put.specs.Writer.{HasRoom, Writes};
 
@@ -17,6 +17,15 @@ pub struct Writer<'a> {
 }
 
 impl<'a> Writer<'a> {
+    // Of what the writer leaves in the buffer a caller learns, since it holds the same one.
+    pub fn new(buffer: &'a mut [u8], at: usize) -> Writer<'a>
+        ensures same_buffer { result.buffer.ghost_name ≡ buffer.entry.ghost_name }
+        ensures contents { result.buffer.now ≡ buffer.old }
+        ensures place { result.at ≡ at }
+    {
+        Writer { buffer, at }
+    }
+
     pub fn put_u8(&mut self, x: u8)
         requires { HasRoom self.old 1 }
         ensures { Writes self.old (x ∷ []) self.new }

@@ -1,7 +1,7 @@
 -- An address that is filled in over 16 zeros, and prefixes that are compared by their parts.
-use Rattle.std.proofs.Common.{◌≡◌, ℕ, ◌+◌, ◌-◌, ◌≤◌, ◌<◌, min, Bool, true, false, cond, ◌&&◌, nat_eq, List, [], ◌∷◌, ◌++◌, length, take, drop, set, get_or, replicate, Ok, refl, sym, inl, inr, arith, le-ltb}
+use Rattle.std.proofs.Common.{◌≡◌, ℕ, ◌+◌, ◌-◌, ◌≤◌, min, Bool, true, false, cond, ◌&&◌, nat_eq, List, [], ◌∷◌, ◌++◌, length, take, drop, replicate, Ok, refl, sym, inl, inr, arith, le-ltb}
 use Rattle.std.specs.Cmp.Lexicographic.{pointwise}
-use Rattle.std.proofs.lemmas.List.{take-append-le, take_all, take-replicate, drop-replicate, drop_all, length-replicate, append-nil, append_assoc, take_more, drop_more, set_at, length-take-le}
+use Rattle.std.proofs.lemmas.List.{take-append-le, take_all, take-replicate, drop-replicate, drop_all, length-replicate, append-nil}
 use Rattle.std.proofs.lemmas.Bool.{cases_lt}
 use Rattle.std.proofs.Math.Seq.{take-append-add}
 use Rattle.format.specs.Bytes.{same_bytes}
@@ -21,16 +21,9 @@ first_of m bs z n h = elim (cases_lt (length bs) m) [
       rw (e, drop_all m (replicate m z) (omega (arith, length-replicate m z)), append-nil, take-append-le m bs (replicate m z) k)
 ]
 
-one_more : (d bs : List ℕ) (i : ℕ) → i < length d → i < length bs → set (take i bs ++ drop i d) i (get_or bs i 0) ≡ take (i + 1) bs ++ drop (i + 1) d
-one_more d bs i h k = rw (take_more bs i 0 k, drop_more d i 0 h, set_at (take i bs) (get_or d i 0) (drop (i + 1) d) (get_or bs i 0) i (length-take-le i bs (omega arith)), append_assoc)
-
 pub filled : (bs : List ℕ) (n : ℕ) → n ≡ min (length bs) 16 → take n bs ++ drop n (replicate 16 0) ≡ address bs
 unfolding address
 filled bs n h = first_of 16 bs 0 n h
-
--- One more octet.
-pub filled_more : (bs : List ℕ) (i : ℕ) → i < 16 → i < length bs → set (take i bs ++ drop i (replicate 16 0)) i (get_or bs i 0) ≡ take (i + 1) bs ++ drop (i + 1) (replicate 16 0)
-filled_more bs i h k = one_more (replicate 16 0) bs i h k
 
 pub same_bytes-pointwise : (xs ys : List ℕ) → same_bytes xs ys ≡ pointwise nat_eq xs ys
 unfolding same_bytes

@@ -23,16 +23,13 @@ pub fn prefix_octets(prefix_length: u8) -> Option<usize>
 }
 
 // The address of a prefix's octets: those, then zeros to 16.
-#[tactic(auto, using(crate::proofs::Addresses::filled, crate::proofs::Addresses::filled_more))]
+#[tactic(auto, using(crate::proofs::Addresses::filled))]
 pub fn prefix_to_ipv6(bytes: &[u8]) -> [u8; 16]
     ensures { result ≡ address bytes.now }
 {
     let mut addr = [0u8; 16];
     let n = bytes.len().min(16);
-    // Not by `copy_from_slice`, which was slower: it is called for no octets too, where this loop ends at once.
-    for i in 0..n {
-        addr[i] = bytes[i];
-    }
+    addr[..n].copy_from_slice(&bytes[..n]);
     addr
 }
 

@@ -5,7 +5,6 @@
 ghost use Rattle.std.specs.Prelude.{◌≡◌, ℕ, ◌≤◌, ◌<◌, List, length};
 ghost use Rattle.std.proofs.Common.{rules};
 ghost use Rattle.std.proofs.Math.Option.{some};
-ghost use Rattle.std.proofs.lemmas.List.Edits.{sets};
 ghost use Rattle.format.specs.Strip.{Entry, encode};
 ghost use Rattle.format.specs.Cut.{Rule};
 ghost use Rattle.format.specs.Trailer.{lls_header, lls_rule, lls_entries, lls_of, auth_trailer_header, auth_trailer_rule, auth_trailer_entries, auth_trailer_of, block_of, limit};
@@ -20,8 +19,8 @@ use strip_ids::kind::{BYTES_LENGTH, CONTAINER_LENGTH, U16_LENGTH, U64_LENGTH};
 use strip_push::field::{U16, U64};
 use strip_push::{begin_container, end_container, push_at, push_bytes_at};
 use strip_put::{Part, Writer};
-use util::read_be_u16;
-use walk_answer::{MAX_DATA, MAX_OFFSET, check_room};
+use util::{declared_length, read_be_u16};
+use walk_answer::{check_limits, check_room};
 
 // A block at the front of the data: the strip's length and the block's.
 #[derive(Clone, Copy, PartialEq, Eq, Debug)]
@@ -90,34 +89,20 @@ fn push_block<T: Trailing>(
 ) -> Result<Option<Block>, Refusal>
     ensures { Reads (block_of (limit «data».now offset) (T.rule «data».now 0) (T.entries «data».now offset)) strip.old result strip.new }
 {
-    if MAX_DATA < data.len() {
-        return Err(Refusal::TooMuch);
-    }
-    if MAX_OFFSET < offset {
-        return Err(Refusal::TooFar);
-    }
+    check_limits(data, offset)?;
     let Some(len) = T::len(data) else {
         return Ok(None);
     };
     check_room(strip, T::STRIP)?;
-    write_block::<T>(strip, Part::new(data, offset as u32), len);
+    T::push(
+        &mut Writer::new(strip, 0),
+        Part::new(data, offset as u32),
+        len,
+    );
     Ok(Some(Block {
         strip: T::STRIP,
         block: len,
     }))
-}
-
-fn write_block<T: Trailing>(strip: &mut [u8], data: Part, len: usize)
-    requires room { T.STRIP ≤ length strip.old }
-    requires covers { T.HEADER_SIZE ≤ len }
-    requires in_bounds { len ≤ length «data».bytes.now }
-    ensures { strip.new ≡ sets strip.old 0 (encode (T.entries «data».entry.bytes.now «data».entry.offset len)) }
-{
-    let mut writer = Writer {
-        buffer: strip,
-        at: 0,
-    };
-    T::push(&mut writer, data, len);
 }
 
 struct Lls;
@@ -192,17 +177,7 @@ impl Trailing for AuthTrailer {
 
     // Its own length counts octets.
     fn len(data: &[u8]) -> Option<usize> {
-        if data.len() < Self::HEADER_SIZE {
-            return None;
-        }
-        let len = read_be_u16(data, 2) as usize;
-        if len < Self::HEADER_SIZE {
-            return None;
-        }
-        if data.len() < len {
-            return None;
-        }
-        Some(len)
+        declared_length(data, 0, Self::HEADER_SIZE, 2)
     }
 
     fn push(strip: &mut Writer, data: Part, len: usize) {

@@ -1,10 +1,13 @@
-// util.rs: the big-endian readers, and the metric of 24 bits. Each requires that its bytes lie in the body.
+// util.rs: the big-endian readers, and the metric of 24 bits, which require that their bytes lie in the body; and the length that a record
+// or a block declares.
 #![tactic(auto)]
 
 ghost use Rattle.std.specs.Prelude.{◌≡◌, ◌+◌, ◌≤◌, length};
+ghost use Rattle.std.proofs.Math.Option.{some};
 ghost use Rattle.format.specs.Bytes.{be16_at, be24_at, be32_at, be64_at};
 ghost use Rattle.format.specs.Metric.{metric_at};
-ghost use Rattle.util.specs.Answers.{cost_of};
+ghost use Rattle.format.specs.Cut.{standing};
+ghost use Rattle.util.specs.Answers.{cost_of, option_of};
 
 pub fn read_be_u16(body: &[u8], p: usize) -> u16
     requires { p + 2 ≤ length body.now }
@@ -60,4 +63,26 @@ pub fn read_metric24(body: &[u8], p: usize) -> Option<u32>
     } else {
         Some(metric)
     }
+}
+
+// How long what stands at p is, by the 16 bits at `length_at` of it: no shorter than `least`, and within the body.
+#[inline(always)]
+#[tactic(auto, unfolding(format::specs::Cut::standing))]
+pub fn declared_length(body: &[u8], p: usize, least: usize, length_at: usize) -> Option<usize>
+    requires p_in_bounds { p ≤ length body.now }
+    requires length_in_least { length_at + 2 ≤ least }
+    ensures { result ≡ option_of (standing least (λ b q. some (be16_at b (q + length_at))) body.now p) }
+{
+    let left = body.len() - p;
+    if left < least {
+        return None;
+    }
+    let n = usize::from(read_be_u16(body, p + length_at));
+    if n < least {
+        return None;
+    }
+    if left < n {
+        return None;
+    }
+    Some(n)
 }

@@ -3,16 +3,19 @@
 // bytes after it, or the whole of a raw body, are one entry.
 #![tactic(auto, unfolding(format::specs::Strip::code, format::specs::Strip::encode, format::specs::V2::network_lsa2, format::specs::V2::opaque_lsa, format::specs::V2::body2))]
 
-ghost use Rattle.std.specs.Prelude.{◌≡◌, ◌≤◌, length};
-ghost use Rattle.format.specs.Header.{header_size};
+ghost use Rattle.std.specs.Prelude.{◌≡◌, get_or, length};
 ghost use Rattle.format.specs.Strip.{encode};
-ghost use Rattle.format.specs.V2.{body2, lsa_entries2, network_lsa2, opaque_has_tlvs, opaque_lsa};
+ghost use Rattle.format.specs.Header.{header_entries2};
+ghost use Rattle.format.specs.V2.{body2, body_of2, lsa_entries2, network_lsa2, opaque_has_tlvs, opaque_lsa, raw_id2, unparsed_id2};
+ghost use Rattle.lsa.proofs.Bounds.{bound2};
 ghost use Rattle.body.specs.Answers.{Pushed, bytes_of};
 ghost use Rattle.strip_put.specs.Writer.{HasRoom, Writes};
 
-use body::{Body, push_attached_routers, push_unparsed};
-use header::LsaHeader;
-use header::v2::push_lsa_header_fields;
+use body::{Body, Measured, push_attached_routers};
+use header::v2::{measure_lsa_header_fields, push_lsa_header_fields};
+use header::{LsaHeader, LsaPart};
+use lsa::Version;
+use measure::measure_body;
 use strip_ids::v2;
 use strip_push::field::Ipv4;
 use strip_push::{push_at, push_bytes_at};
@@ -23,19 +26,60 @@ use v2_routes::{push_external_lsa, push_summary_lsa};
 pub mod measure;
 
 // A whole LSA: its header, its body, and what is left of that.
-pub fn push_lsa(strip: &mut Writer, lsa: Part)
-    requires room { HasRoom strip.old (length (encode (lsa_entries2 lsa.bytes.now lsa.offset))) }
-    requires header_size_in_bounds { header_size ≤ length lsa.bytes.now }
-    ensures { Writes strip.old (encode (lsa_entries2 lsa.entry.bytes.now lsa.entry.offset)) strip.new }
+#[tactic(auto, unfolding(format::specs::V2::lsa_entries2, lsa::specs::Whole::whole))]
+pub fn push_lsa(strip: &mut Writer, lsa: LsaPart)
+    requires { HasRoom strip.old (length (encode (lsa_entries2 lsa.part.bytes.now lsa.part.offset))) }
+    ensures { Writes strip.old (encode (lsa_entries2 lsa.entry.part.bytes.now lsa.entry.part.offset)) strip.new }
 {
-    push_lsa_header_fields(strip, lsa);
-    let ls_type = lsa.bytes[LsaHeader::V2_TYPE_AT];
-    let opaque_type = lsa.bytes[LsaHeader::V2_OPAQUE_TYPE_AT];
-    let body = lsa.rest(LsaHeader::SIZE);
-    match push_body(strip, ls_type, opaque_type, body) {
-        Body::Decoded { consumed } => push_unparsed(strip, v2::UNPARSED, body, consumed),
-        Body::Raw => push_unparsed(strip, v2::BODY, body, 0),
+    lsa::push_lsa::<Ospfv2>(strip, lsa);
+}
+
+struct Ospfv2;
+
+#[tactic(auto, unfolding(format::specs::V2::lsa_entries2, lsa::specs::Whole::whole))]
+impl Version for Ospfv2 {
+    const BODY: u8 = v2::BODY;
+
+    ghost BODY = { raw_id2 };
+
+    const UNPARSED: u8 = v2::UNPARSED;
+
+    ghost UNPARSED = { unparsed_id2 };
+
+    ghost header = { header_entries2 };
+
+    ghost body = { body_of2 };
+
+    fn push_header(strip: &mut Writer, lsa: LsaPart) {
+        push_lsa_header_fields(strip, lsa);
     }
+
+    fn push_body(strip: &mut Writer, lsa: LsaPart) -> Body {
+        let (ls_type, opaque_type) = lsa_types(lsa);
+        push_body(strip, ls_type, opaque_type, lsa.part.rest(LsaHeader::SIZE))
+    }
+
+    fn measure_header(lsa: LsaPart) -> usize {
+        measure_lsa_header_fields(lsa.part.bytes)
+    }
+
+    fn measure_body(lsa: LsaPart) -> Measured {
+        let (ls_type, opaque_type) = lsa_types(lsa);
+        measure_body(ls_type, opaque_type, lsa.part.rest(LsaHeader::SIZE))
+    }
+
+    ghost bound = { bound2 };
+}
+
+// The LS type, and the opaque type, which an opaque LSA has.
+fn lsa_types(lsa: LsaPart) -> (u8, u8)
+    ensures { (result.0 ≡ get_or lsa.entry.part.bytes.now 3 0) × (result.1 ≡ get_or lsa.entry.part.bytes.now 4 0) }
+{
+    let bytes = lsa.part.bytes;
+    (
+        bytes[LsaHeader::V2_TYPE_AT],
+        bytes[LsaHeader::V2_OPAQUE_TYPE_AT],
+    )
 }
 
 // The body of an LS type; the opaque type matters to opaque LSAs alone.

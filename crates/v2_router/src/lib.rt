@@ -3,6 +3,7 @@
 #![tactic(auto, unfolding(format::specs::Strip::code, format::specs::Strip::encode, format::specs::Strip::container, format::specs::V2::link_tos, format::specs::V2::router_lsa2))]
 
 ghost use Rattle.std.specs.Prelude.{◌+◌, ◌≤◌, length};
+ghost use Rattle.std.proofs.Common.{rules};
 ghost use Rattle.format.specs.Strip.{encode};
 ghost use Rattle.format.specs.Cut.{link_rule};
 ghost use Rattle.format.specs.V2.{link, link_fields, link_tos, router_lsa2};
@@ -78,8 +79,8 @@ impl Record for Link {
         end_container(strip);
     }
 
-    fn measure(body: &[u8], p: usize, _n: usize) -> usize {
-        let num_tos = usize::from(body[p + 9]);
+    fn measure(body: Part, p: usize, _n: usize) -> usize {
+        let num_tos = usize::from(body.bytes[p + 9]);
         let metrics = measure_array_if_any::<LinkTosMetric>(body, p + Link::SIZE, num_tos);
         Link::LENGTH + metrics.length
     }
@@ -117,7 +118,9 @@ impl Item for LinkTosMetric {
         end_container(strip);
     }
 
-    fn measure(_body: &[u8], _p: usize) -> usize {
+    fn measure(_body: Part, _p: usize) -> usize {
         CONTAINER_LENGTH + U8_LENGTH + U32_LENGTH
     }
+
+    ghost size_nonzero = { Prim.search rules };
 }

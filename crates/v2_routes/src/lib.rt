@@ -2,7 +2,8 @@
 // RFC 2328 A.4.4 for Summary-LSAs, A.4.5 for AS-external-LSAs, RFC 3101 for type 7.
 #![tactic(auto, unfolding(format::specs::Strip::code, format::specs::Strip::encode, format::specs::Strip::container, format::specs::Body::whole, format::specs::V2::summary_tos, format::specs::V2::summary_lsa, format::specs::V2::external_tos, format::specs::V2::external_lsa2))]
 
-ghost use Rattle.std.specs.Prelude.{◌≡◌, ◌≤◌, ◌<◌, length};
+ghost use Rattle.std.specs.Prelude.{◌≡◌, ◌≤◌, length};
+ghost use Rattle.std.proofs.Common.{rules};
 ghost use Rattle.format.specs.Cut.{after};
 ghost use Rattle.format.specs.Body.{listing_if_any, whole};
 ghost use Rattle.format.specs.Strip.{encode};
@@ -71,7 +72,6 @@ fn push_external_fields(strip: &mut Writer, body: Part)
 fn push_tos_metrics<I: Item>(strip: &mut Writer, body: Part, first: usize) -> usize
     requires room { HasRoom strip.old (length (encode (listing_if_any 20 (I.entries body.bytes.now body.offset) body.offset first (whole I.SIZE body.bytes.now first)))) }
     requires first_in_bounds { first ≤ length body.bytes.now }
-    requires size_nonzero { 0 < I.SIZE }
     ensures wrote { Writes strip.old (encode (listing_if_any 20 (I.entries body.entry.bytes.now body.entry.offset) body.entry.offset first (whole I.SIZE body.entry.bytes.now first))) strip.new }
     ensures end_value { result ≡ after first (whole I.SIZE body.entry.bytes.now first) }
 {
@@ -96,9 +96,11 @@ impl Item for SummaryTosMetric {
         end_container(strip);
     }
 
-    fn measure(body: &[u8], p: usize) -> usize {
-        CONTAINER_LENGTH + U8_LENGTH + measure_metric24(body, p + 1)
+    fn measure(body: Part, p: usize) -> usize {
+        CONTAINER_LENGTH + U8_LENGTH + measure_metric24(body.bytes, p + 1)
     }
+
+    ghost size_nonzero = { Prim.search rules };
 }
 
 // A TOS metric of an external LSA.
@@ -122,8 +124,10 @@ impl Item for ExternalTosMetric {
         end_container(strip);
     }
 
-    fn measure(body: &[u8], p: usize) -> usize {
-        let metric = measure_metric24(body, p + 1);
+    fn measure(body: Part, p: usize) -> usize {
+        let metric = measure_metric24(body.bytes, p + 1);
         CONTAINER_LENGTH + 2 * U8_LENGTH + metric + IPV4_LENGTH + U32_LENGTH
     }
+
+    ghost size_nonzero = { Prim.search rules };
 }

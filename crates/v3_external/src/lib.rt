@@ -1,9 +1,11 @@
 // The part of v3_lsa.rs on the AS-External-LSA and the NSSA-LSA (RFC 5340 A.4.7, A.4.8).
 #![tactic(auto, unfolding(format::specs::Strip::code, format::specs::Strip::encode, format::specs::V3::external_lsa3))]
 
-ghost use Rattle.std.specs.Prelude.{◌≡◌, ◌+◌, ◌≤◌, length};
+ghost use Rattle.std.specs.Prelude.{◌≡◌, ℕ, ◌≤◌, length, MatchOption};
+ghost use Rattle.std.proofs.Math.Option.{some};
+ghost use Rattle.format.specs.Body.Body.{raw};
 ghost use Rattle.format.specs.Strip.{encode};
-ghost use Rattle.format.specs.V3.{has_forwarding, has_tag, has_reference, external_end, external_flags, external_prefix, external_optional, external_lsa3};
+ghost use Rattle.format.specs.V3.{fixed_prefix_fits, has_forwarding, has_tag, has_reference, external_end, external_flags, external_prefix, external_optional, external_lsa3};
 ghost use Rattle.body.specs.Answers.{bytes_of, Pushed};
 ghost use Rattle.strip_put.specs.Writer.{HasRoom, Writes};
 
@@ -22,99 +24,103 @@ pub fn push_external_lsa(strip: &mut Writer, body: Part) -> Body
     requires { HasRoom strip.old (length (bytes_of (external_lsa3 body.bytes.now body.offset))) }
     ensures { Pushed (external_lsa3 body.entry.bytes.now body.entry.offset) strip.old strip.new result }
 {
-    let Some(n) = fixed_prefix_fits(body.bytes) else {
+    let Some(external) = External::read(body) else {
         return Body::Raw;
     };
-    let end = external_end(body.bytes, n);
-    if body.len() < end {
-        return Body::Raw;
+    external.push_flags(strip);
+    external.push_prefix(strip);
+    external.push_optional(strip);
+    Body::Decoded {
+        consumed: external.end,
     }
-    push_external_flags(strip, body);
-    push_external_prefix(strip, body, n);
-    push_external_optional(strip, body, n);
-    Body::Decoded { consumed: end }
 }
 
-// Whether an external has a Forwarding Address: its bit F.
-fn has_forwarding(body: &[u8]) -> bool
-    requires { 8 ≤ length body.now }
-    ensures { result ≡ has_forwarding body.now }
-{
-    body[0] & 0x02 != 0
+// An external whose parts all lie in its body: the octets of its prefix, whether it has a Forwarding Address (its bit F), an
+// External Route Tag (its bit T) and a Referenced Link State ID (its Referenced LS Type is not zero), and where the last ends.
+#[derive(Clone, Copy, PartialEq, Eq, Debug)]
+struct External<'a> {
+    body: Part<'a>,
+    octets: usize,
+    forwarding: bool,
+    tag: bool,
+    reference: bool,
+    end: usize,
+    ghost octets_value: { fixed_prefix_fits body.bytes.now ≡ some octets },
+    ghost octets_bound: { octets ≤ 16 },
+    ghost forwarding_value: { forwarding ≡ has_forwarding body.bytes.now },
+    ghost tag_value: { tag ≡ has_tag body.bytes.now },
+    ghost reference_value: { reference ≡ has_reference body.bytes.now },
+    ghost end_value: { end ≡ external_end body.bytes.now octets },
+    ghost within: { end ≤ length body.bytes.now },
 }
 
-// Whether it has an External Route Tag: its bit T.
-fn has_tag(body: &[u8]) -> bool
-    requires { 8 ≤ length body.now }
-    ensures { result ≡ has_tag body.now }
-{
-    body[0] & 0x01 != 0
-}
-
-// Whether it has a Referenced Link State ID: its Referenced LS Type is not zero.
-fn has_reference(body: &[u8]) -> bool
-    requires { 8 ≤ length body.now }
-    ensures { result ≡ has_reference body.now }
-{
-    read_be_u16(body, 6) != 0
-}
-
-// Where the last of the optional parts ends, after a prefix of n octets.
-fn external_end(body: &[u8], n: usize) -> usize
-    requires in_bounds { 8 ≤ length body.now }
-    requires n_bound { n ≤ 16 }
-    ensures { result ≡ external_end body.now n }
-{
-    8 + n
-        + if has_forwarding(body) { 16 } else { 0 }
-        + if has_tag(body) { 4 } else { 0 }
-        + if has_reference(body) { 4 } else { 0 }
-}
-
-// The bits E, F and T.
-fn push_external_flags(strip: &mut Writer, body: Part)
-    requires room { HasRoom strip.old (length (encode (external_flags body.bytes.now body.offset))) }
-    requires in_bounds { 8 ≤ length body.bytes.now }
-    ensures { Writes strip.old (encode (external_flags body.entry.bytes.now body.entry.offset)) strip.new }
-{
-    push_at::<U8>(strip, v3::FLAGS, body, 0);
-    push_bit_at(strip, v3::FLAG_E, body, 0, 0x04);
-    push_bit_at(strip, v3::FLAG_F, body, 0, 0x02);
-    push_bit_at(strip, v3::FLAG_T, body, 0, 0x01);
-}
-
-// Metric, PrefixLength, PrefixOptions, Referenced LS Type, and a prefix of n octets.
-fn push_external_prefix(strip: &mut Writer, body: Part, n: usize)
-    requires room { HasRoom strip.old (length (encode (external_prefix body.bytes.now body.offset n))) }
-    requires n_in_bounds { 8 + n ≤ length body.bytes.now }
-    requires n_bound { n ≤ 16 }
-    ensures { Writes strip.old (encode (external_prefix body.entry.bytes.now body.entry.offset n)) strip.new }
-{
-    push_metric24_at(strip, v3::METRIC, body, 1);
-    push_at::<U8>(strip, v3::PREFIX_LENGTH, body, 4);
-    push_at::<U8>(strip, v3::PREFIX_OPTIONS, body, 5);
-    push_at::<U16>(strip, v3::REFERENCED_LS_TYPE, body, 6);
-    push_ipv6_at(strip, v3::PREFIX, body, 8, n);
-}
-
-// Forwarding Address, External Route Tag and Referenced Link State ID, as present, in this order.
-fn push_external_optional(strip: &mut Writer, body: Part, n: usize)
-    requires room { HasRoom strip.old (length (encode (external_optional body.bytes.now body.offset n))) }
-    requires in_bounds { 8 ≤ length body.bytes.now }
-    requires n_in_bounds { external_end body.bytes.now n ≤ length body.bytes.now }
-    requires n_bound { n ≤ 16 }
-    ensures { Writes strip.old (encode (external_optional body.entry.bytes.now body.entry.offset n)) strip.new }
-{
-    let mut p = 8 + n;
-    if has_forwarding(body.bytes) {
-        push_ipv6_at(strip, v3::FORWARDING_ADDRESS, body, p, 16);
-        p += 16;
+impl<'a> External<'a> {
+    // The one at the front of a body, if one fits.
+    fn read(body: Part<'a>) -> Option<External<'a>>
+        ensures { MatchOption result ((o : ℕ) → external_lsa3 body.entry.bytes.now o ≡ raw) (λ x. x.body ≡ body.entry) }
+    {
+        let bytes = body.bytes;
+        let octets = fixed_prefix_fits(bytes)?;
+        let forwarding = bytes[0] & 0x02 != 0;
+        let tag = bytes[0] & 0x01 != 0;
+        let reference = read_be_u16(bytes, 6) != 0;
+        let end = 8
+            + octets
+            + if forwarding { 16 } else { 0 }
+            + if tag { 4 } else { 0 }
+            + if reference { 4 } else { 0 };
+        if body.len() < end {
+            return None;
+        }
+        Some(External {
+            body,
+            octets,
+            forwarding,
+            tag,
+            reference,
+            end,
+        })
     }
-    if has_tag(body.bytes) {
-        push_at::<U32>(strip, v3::EXTERNAL_ROUTE_TAG, body, p);
-        p += 4;
+
+    // The bits E, F and T.
+    fn push_flags(self, strip: &mut Writer)
+        requires { HasRoom strip.old (length (encode (external_flags self.body.bytes.now self.body.offset))) }
+        ensures { Writes strip.old (encode (external_flags self.entry.body.bytes.now self.entry.body.offset)) strip.new }
+    {
+        push_at::<U8>(strip, v3::FLAGS, self.body, 0);
+        push_bit_at(strip, v3::FLAG_E, self.body, 0, 0x04);
+        push_bit_at(strip, v3::FLAG_F, self.body, 0, 0x02);
+        push_bit_at(strip, v3::FLAG_T, self.body, 0, 0x01);
     }
-    if has_reference(body.bytes) {
-        push_at::<U32>(strip, v3::REFERENCED_LINK_STATE_ID, body, p);
+
+    // Metric, PrefixLength, PrefixOptions, Referenced LS Type, and the prefix.
+    fn push_prefix(self, strip: &mut Writer)
+        requires { HasRoom strip.old (length (encode (external_prefix self.body.bytes.now self.body.offset self.octets))) }
+        ensures { Writes strip.old (encode (external_prefix self.entry.body.bytes.now self.entry.body.offset self.entry.octets)) strip.new }
+    {
+        push_metric24_at(strip, v3::METRIC, self.body, 1);
+        push_at::<U8>(strip, v3::PREFIX_LENGTH, self.body, 4);
+        push_at::<U8>(strip, v3::PREFIX_OPTIONS, self.body, 5);
+        push_at::<U16>(strip, v3::REFERENCED_LS_TYPE, self.body, 6);
+        push_ipv6_at(strip, v3::PREFIX, self.body, 8, self.octets);
+    }
+
+    // Forwarding Address, External Route Tag and Referenced Link State ID, as present, in this order.
+    fn push_optional(self, strip: &mut Writer)
+        requires { HasRoom strip.old (length (encode (external_optional self.body.bytes.now self.body.offset self.octets))) }
+        ensures { Writes strip.old (encode (external_optional self.entry.body.bytes.now self.entry.body.offset self.entry.octets)) strip.new }
+    {
+        let mut p = 8 + self.octets;
+        if self.forwarding {
+            push_ipv6_at(strip, v3::FORWARDING_ADDRESS, self.body, p, 16);
+            p += 16;
+        }
+        if self.tag {
+            push_at::<U32>(strip, v3::EXTERNAL_ROUTE_TAG, self.body, p);
+            p += 4;
+        }
+        if self.reference {
+            push_at::<U32>(strip, v3::REFERENCED_LINK_STATE_ID, self.body, p);
+        }
     }
 }

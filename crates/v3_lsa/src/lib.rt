@@ -3,17 +3,21 @@
 #![tactic(auto, unfolding(format::specs::Strip::code, format::specs::Strip::encode, format::specs::Strip::container, format::specs::Body::whole, format::specs::V3::link, format::specs::V3::router_lsa3, format::specs::V3::network_lsa3, format::specs::V3::inter_area_router_lsa, format::specs::V3::tlv_lsa))]
 
 ghost use Rattle.std.specs.Prelude.{◌≡◌, ◌≤◌, length};
+ghost use Rattle.std.proofs.Common.{rules};
 ghost use Rattle.format.specs.Body.Body.{decoded};
-ghost use Rattle.format.specs.Header.{header_size};
 ghost use Rattle.format.specs.Strip.{encode};
-ghost use Rattle.format.specs.V3.{tlvs, link, router_lsa3, network_lsa3, inter_area_router_lsa, e_router_lsa, e_network_lsa, e_link_lsa, e_intra_area_prefix_lsa, body3, function_code, lsa_entries3};
+ghost use Rattle.format.specs.V3.{tlvs, link, router_lsa3, network_lsa3, inter_area_router_lsa, e_router_lsa, e_network_lsa, e_link_lsa, e_intra_area_prefix_lsa, body3, body_of3, function_code, lsa_entries3, raw_id3, unparsed_id3};
+ghost use Rattle.format.specs.Header.{header_entries3};
+ghost use Rattle.lsa.proofs.Bounds.{bound3};
 ghost use Rattle.body.specs.Answers.{bytes_of, Pushed};
 ghost use Rattle.strip_put.specs.Writer.{HasRoom, Writes};
 
 use body::list::{Item, push_array};
-use body::{Body, push_attached_routers, push_router_flags, push_unparsed};
-use header::LsaHeader;
-use header::v3::push_lsa_header_fields;
+use body::{Body, Measured, push_attached_routers, push_router_flags};
+use header::v3::{measure_lsa_header_fields, push_lsa_header_fields};
+use header::{LsaHeader, LsaPart};
+use lsa::Version;
+use measure::measure_body;
 use strip_ids::kind::{CONTAINER_LENGTH, IPV4_LENGTH, U8_LENGTH, U16_LENGTH, U32_LENGTH};
 use strip_ids::{LINK, v3};
 use strip_push::field::{Ipv4, U8, U16, U32};
@@ -29,26 +33,54 @@ use v3_prefix_lsa::{
 pub mod measure;
 
 // A whole LSA: its header, its body, and what is left of it.
-#[tactic(auto, using(body::proofs::Laws::length_lsa), unfolding(format::specs::V3::lsa_entries3))]
-pub fn push_lsa(strip: &mut Writer, lsa: Part)
-    requires room { HasRoom strip.old (length (encode (lsa_entries3 lsa.bytes.now lsa.offset))) }
-    requires header_size_in_bounds { header_size ≤ length lsa.bytes.now }
-    ensures { Writes strip.old (encode (lsa_entries3 lsa.entry.bytes.now lsa.entry.offset)) strip.new }
+#[tactic(auto, unfolding(format::specs::V3::lsa_entries3, lsa::specs::Whole::whole))]
+pub fn push_lsa(strip: &mut Writer, lsa: LsaPart)
+    requires { HasRoom strip.old (length (encode (lsa_entries3 lsa.part.bytes.now lsa.part.offset))) }
+    ensures { Writes strip.old (encode (lsa_entries3 lsa.entry.part.bytes.now lsa.entry.part.offset)) strip.new }
 {
-    push_lsa_header_fields(strip, lsa);
-    let body = lsa.rest(LsaHeader::SIZE);
-    match push_body(strip, function_code(lsa.bytes), body) {
-        Body::Decoded { consumed } => push_unparsed(strip, v3::UNPARSED, body, consumed),
-        Body::Raw => push_unparsed(strip, v3::BODY, body, 0),
+    lsa::push_lsa::<Ospfv3>(strip, lsa);
+}
+
+struct Ospfv3;
+
+#[tactic(auto, unfolding(format::specs::V3::lsa_entries3, lsa::specs::Whole::whole))]
+impl Version for Ospfv3 {
+    const BODY: u8 = v3::BODY;
+
+    ghost BODY = { raw_id3 };
+
+    const UNPARSED: u8 = v3::UNPARSED;
+
+    ghost UNPARSED = { unparsed_id3 };
+
+    ghost header = { header_entries3 };
+
+    ghost body = { body_of3 };
+
+    fn push_header(strip: &mut Writer, lsa: LsaPart) {
+        push_lsa_header_fields(strip, lsa);
     }
+
+    fn push_body(strip: &mut Writer, lsa: LsaPart) -> Body {
+        push_body(strip, function_code(lsa), lsa.part.rest(LsaHeader::SIZE))
+    }
+
+    fn measure_header(_lsa: LsaPart) -> usize {
+        measure_lsa_header_fields()
+    }
+
+    fn measure_body(lsa: LsaPart) -> Measured {
+        measure_body(function_code(lsa), lsa.part.rest(LsaHeader::SIZE))
+    }
+
+    ghost bound = { bound3 };
 }
 
 // The function code: the LS type without its U bit and its scope (RFC 5340 A.4.2.1).
-fn function_code(lsa: &[u8]) -> u16
-    requires { header_size ≤ length lsa.now }
-    ensures { result ≡ function_code lsa.now }
+fn function_code(lsa: LsaPart) -> u16
+    ensures { result ≡ function_code lsa.entry.part.bytes.now }
 {
-    read_be_u16(lsa, LsaHeader::V3_TYPE_AT) & 0x1FFF
+    read_be_u16(lsa.part.bytes, LsaHeader::V3_TYPE_AT) & 0x1FFF
 }
 
 // The body of a function code. RFC 5340 has codes 1 to 9.
@@ -155,9 +187,11 @@ impl Item for Link {
         end_container(strip);
     }
 
-    fn measure(_body: &[u8], _p: usize) -> usize {
+    fn measure(_body: Part, _p: usize) -> usize {
         CONTAINER_LENGTH + U8_LENGTH + U16_LENGTH + 2 * U32_LENGTH + IPV4_LENGTH
     }
+
+    ghost size_nonzero = { Prim.search rules };
 }
 
 // Router-LSA: flags, Options, and as many links as the body holds from 4 on (RFC 5340 A.4.3).

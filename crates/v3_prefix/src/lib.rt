@@ -54,7 +54,7 @@ impl<const WITH_METRIC: bool> Record for Prefix<WITH_METRIC> {
         end_container(strip);
     }
 
-    fn measure(_body: &[u8], _p: usize, _n: usize) -> usize {
+    fn measure(_body: Part, _p: usize, _n: usize) -> usize {
         let metric = if WITH_METRIC { U16_LENGTH } else { 0 };
         CONTAINER_LENGTH + 2 * U8_LENGTH + metric + IPV6_LENGTH
     }
@@ -64,21 +64,16 @@ impl<const WITH_METRIC: bool> Record for Prefix<WITH_METRIC> {
 
 // The prefixes from a place on, at most as many as the count. Answers the place where their list ends.
 #[inline(always)]
-pub fn push_prefixes(
+pub fn push_prefixes<const WITH_METRIC: bool>(
     strip: &mut Writer,
     body: Part,
     first: usize,
     count: u32,
-    with_metric: bool,
 ) -> usize
-    requires room { HasRoom strip.old (length (encode (listing 29 (prefix with_metric body.bytes.now body.offset) body.offset first (cut prefix_rule body.bytes.now count first)))) }
+    requires room { HasRoom strip.old (length (encode (listing 29 (prefix WITH_METRIC body.bytes.now body.offset) body.offset first (cut prefix_rule body.bytes.now count first)))) }
     requires first_in_bounds { first ≤ length body.bytes.now }
-    ensures wrote { Writes strip.old (encode (listing 29 (prefix with_metric body.entry.bytes.now body.entry.offset) body.entry.offset first (cut prefix_rule body.entry.bytes.now count first))) strip.new }
+    ensures wrote { Writes strip.old (encode (listing 29 (prefix WITH_METRIC body.entry.bytes.now body.entry.offset) body.entry.offset first (cut prefix_rule body.entry.bytes.now count first))) strip.new }
     ensures end_value { result ≡ after first (cut prefix_rule body.entry.bytes.now count first) }
 {
-    if with_metric {
-        push_list::<Prefix<true>>(strip, v3::PREFIXES, body, first, count)
-    } else {
-        push_list::<Prefix<false>>(strip, v3::PREFIXES, body, first, count)
-    }
+    push_list::<Prefix<WITH_METRIC>>(strip, v3::PREFIXES, body, first, count)
 }

@@ -67,7 +67,7 @@ pub fn push_link_lsa(strip: &mut Writer, body: Part) -> Body
     push_ipv6_at(strip, v3::LINK_LOCAL_ADDRESS, body, 4, 16);
     push_at::<U32>(strip, v3::NUM_PREFIXES, body, 20);
     let count = read_be_u32(body.bytes, 20);
-    let consumed = push_prefixes(strip, body, 24, count, false);
+    let consumed = push_prefixes::<false>(strip, body, 24, count);
     Body::Decoded { consumed }
 }
 
@@ -82,6 +82,6 @@ pub fn push_intra_area_prefix_lsa(strip: &mut Writer, body: Part) -> Body
     push_at::<Wide16>(strip, v3::NUM_PREFIXES, body, 0);
     push_references(strip, body);
     let count = u32::from(read_be_u16(body.bytes, 0));
-    let consumed = push_prefixes(strip, body, 12, count, true);
+    let consumed = push_prefixes::<true>(strip, body, 12, count);
     Body::Decoded { consumed }
 }

@@ -2,6 +2,7 @@
 #![tactic(auto)]
 
 ghost use Rattle.std.specs.Prelude.{◌≡◌, ◌≤◌, ◌<◌, length, OnOk, IfErr};
+ghost use Rattle.format.specs.Trailer.{limit};
 ghost use Rattle.format.specs.Walks.{is_known, refusal, unparsed_id};
 ghost use Rattle.refusal.specs.Numbers.{needed_of};
 ghost use Rattle.refusal.specs.declared.Refusal.TheVariants.{NoRoom};
@@ -56,12 +57,7 @@ pub fn check_call(version: u8, data: &[u8], offset: u64, least: usize) -> Result
     if !is_known(version) {
         return Err(Refusal::NoVersion);
     }
-    if MAX_DATA < data.len() {
-        return Err(Refusal::TooMuch);
-    }
-    if MAX_OFFSET < offset {
-        return Err(Refusal::TooFar);
-    }
+    check_limits(data, offset)?;
     if data.len() < least {
         return Err(Refusal::TooLittle);
     }
@@ -72,6 +68,21 @@ pub fn is_known(version: u8) -> bool
     ensures { result ≡ is_known version }
 {
     version == 2 || version == 3
+}
+
+// The refusals that every call has: the data or the offset would take a place past 32 bits.
+#[inline(always)]
+pub fn check_limits(data: &[u8], offset: u64) -> Result<(), Refusal>
+    ensures number { refusal_meaning result ≡ limit «data».now offset }
+    ensures needs_nothing { IfErr result (λ r. needed_of r ≡ 0) }
+{
+    if MAX_DATA < data.len() {
+        return Err(Refusal::TooMuch);
+    }
+    if MAX_OFFSET < offset {
+        return Err(Refusal::TooFar);
+    }
+    Ok(())
 }
 
 // The last refusal of a walk: the lent buffer has no room for a strip of this length.

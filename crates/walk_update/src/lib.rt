@@ -5,21 +5,18 @@ ghost use Rattle.std.specs.Prelude.{◌+◌};
 ghost use Rattle.std.proofs.Math.Option.{some};
 ghost use Rattle.format.specs.Bytes.{be16_at};
 ghost use Rattle.format.specs.Cut.{record_rule};
-ghost use Rattle.format.specs.Walks.{lsa_object, update_of};
+ghost use Rattle.format.specs.Walks.{lsa_entries, update_of};
 ghost use Rattle.format.specs.Header.{header_size};
 ghost use Rattle.format.proofs.Rules.{inside};
 ghost use Rattle.walk_answer.specs.Answers.{Promised};
 
-use body::list::Record;
-use header::LsaHeader;
+use header::{LsaHeader, LsaPart};
 use refusal::Refusal;
 use strip_ids::LSA;
-use strip_ids::kind::CONTAINER_LENGTH;
-use strip_push::{begin_container, end_container};
 use strip_put::{Part, Writer};
-use util::read_be_u16;
+use util::declared_length;
 use walk_answer::{Answer, check_call};
-use walk_list::walk_list;
+use walk_list::{Object, walk_list};
 use walk_lsa::{measure_lsa, push_lsa_fields};
 
 // The first LSA follows the number of LSAs.
@@ -43,40 +40,32 @@ pub fn push_lsu_lsas(
     }
 }
 
-// The object of an LSA of this version.
+// An LSA of this version.
 struct LsaObject<const VERSION: u8>;
 
-#[tactic(auto, using(crate::proofs::Records::record_stands), unfolding(format::specs::Strip::code, format::specs::Walks::lsa_object, format::specs::Cut::standing))]
-impl<const VERSION: u8> Record for LsaObject<VERSION> {
+impl<const VERSION: u8> Object for LsaObject<VERSION> {
+    const ID: u8 = LSA;
+
+    ghost ID = { 113 };
+
     ghost rule = { record_rule };
 
-    ghost entries = { lsa_object VERSION };
+    ghost inside = { lsa_entries VERSION };
 
     // An LSA has its header at least, and the length that this declares.
     fn fits(body: &[u8], p: usize) -> Option<usize> {
-        let left = body.len() - p;
-        if left < LsaHeader::SIZE {
-            return None;
-        }
-        let n = usize::from(read_be_u16(body, p + LsaHeader::LENGTH_AT));
-        if n < LsaHeader::SIZE {
-            return None;
-        }
-        if left < n {
-            return None;
-        }
-        Some(n)
+        declared_length(body, p, LsaHeader::SIZE, LsaHeader::LENGTH_AT)
     }
 
-    fn push(strip: &mut Writer, body: Part, p: usize, n: usize) {
-        begin_container(strip, LSA, body.range(p, n));
-        push_lsa_fields(strip, VERSION, body.part(p, n));
-        end_container(strip);
+    fn push(strip: &mut Writer, lsa: LsaPart) {
+        push_lsa_fields(strip, VERSION, lsa);
     }
 
-    fn measure(body: &[u8], p: usize, n: usize) -> usize {
-        CONTAINER_LENGTH + measure_lsa(VERSION, &body[p..p + n]).length
+    fn measure(lsa: LsaPart) -> usize {
+        measure_lsa(VERSION, lsa).length
     }
+
+    ghost has_header = { λ b p n e. (inside header_size (λ c q. some (be16_at c (q + 18))) b p n e).enough };
 
     ghost within = { λ b p n e. (inside header_size (λ c q. some (be16_at c (q + 18))) b p n e).within };
 }

@@ -7,7 +7,7 @@ use Rattle.body.proofs.list.measure_array.Goals as goal
 
 pub returns-clause-by_index : goal.returns-clause-by_index
 unfolding spread
-returns-clause-by_index g c id o = omega (arith, c.measure_items.ensures.by_index o, length-listing id (g.I.Item.entries c.args.body.now o) o c.args.first (cut (fixed_rule g.I.Item.SIZE) c.args.body.now c.args.count c.args.first))
+returns-clause-by_index g c id o = omega (arith, c.measure_items.ensures.by_index o, length-listing id (g.I.Item.entries c.args.body.bytes.now o) o c.args.first (cut (fixed_rule g.I.Item.SIZE) c.args.body.bytes.now c.args.count c.args.first))
 
 pub returns-clause-end_value : goal.returns-clause-end_value
-returns-clause-end_value g c = rw c.SIZE.ensures (sym (fixed_cut _ _ _ _ c.requires.in_bounds).1)
+returns-clause-end_value g c = rw c.SIZE.ensures (sym (fixed_cut _ _ _ _ c.requires).1)

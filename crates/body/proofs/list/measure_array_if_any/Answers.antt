@@ -9,7 +9,7 @@ pub returns-then-count-eq0-clause-by_index : goal.returns-then-count-eq0-clause-
 unfolding encode
 returns-then-count-eq0-clause-by_index g c id o =
     let e : c.args.count ≡ 0 = c.if-count-eq0.true in
-    rw (not_opened id g.I.Item.SIZE (g.I.Item.entries c.args.body.now o) c.args.body.now o c.args.first c.args.count e) refl
+    rw (not_opened id g.I.Item.SIZE (g.I.Item.entries c.args.body.bytes.now o) c.args.body.bytes.now o c.args.first c.args.count e) refl
 
 pub returns-then-count-eq0-clause-end_value : goal.returns-then-count-eq0-clause-end_value
 unfolding cut after
@@ -19,4 +19,4 @@ returns-then-count-eq0-clause-end_value g c =
 
 pub returns-clause-by_index : goal.returns-clause-by_index
 returns-clause-by_index g c id o =
-    rw (opened id g.I.Item.SIZE (g.I.Item.entries c.args.body.now o) c.args.body.now o c.args.first c.args.count (omega arith) c.requires.in_bounds) (c.measure_array.ensures.by_index id o)
+    rw (opened id g.I.Item.SIZE (g.I.Item.entries c.args.body.bytes.now o) c.args.body.bytes.now o c.args.first c.args.count (omega arith) c.requires) (c.measure_array.ensures.by_index id o)

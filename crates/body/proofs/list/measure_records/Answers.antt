@@ -9,7 +9,7 @@ use Rattle.util.proofs.Laws.{some_of, none_of}
 use Rattle.body.proofs.list.measure_records.Goals as goal
 
 pub loop-init : goal.loop-init
-loop-init g c = (λ o. rw sub-zero (measure_begin _ _ _ _ _), refl, omega arith, c.requires.first_in_bounds, omega arith)
+loop-init g c = (λ o. rw sub-zero (measure_begin _ _ _ _ _), refl, omega arith, c.requires, omega arith)
 
 pub loop-preserved : goal.loop-preserved
 loop-preserved g c =

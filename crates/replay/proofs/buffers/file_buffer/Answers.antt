@@ -1,6 +1,0 @@
-use Rattle.std.proofs.Common.{ℕ, sym}
-use lib.ListN.{length-replicate}
-use Rattle.replay.proofs.buffers.file_buffer.Goals as goal
-
-pub returns : goal.returns
-returns c = sym (length-replicate {A = ℕ} 1048576 0)
