@@ -63,8 +63,9 @@ uint64_t ospf_newness(uint8_t version, const uint8_t *first, size_t first_len, c
                       size_t second_len);
 
 /*
- * Whether two prefixes are the same: their lengths in bits, and all 16 bytes of their addresses. An address is the
- * bytes given, then zeros to 16; more than 16 are cut. So a prefix's octets can be handed over as they lie in a packet.
+ * Whether two prefixes are the same: their lengths in bits, and the first bits of their addresses, as many as the length
+ * says; the bits past them are padding (RFC 5340 A.4.1) and may hold anything. An address is the bytes given, then zeros
+ * to 16; more than 16 are cut. So a prefix's octets can be handed over as they lie in a packet.
  * Refused: OSPF_REFUSED_PREFIX_LENGTH, either length above 128.
  */
 uint64_t ospf_prefix_compare(uint8_t first_length, const uint8_t *first, size_t first_len, uint8_t second_length,

@@ -23,16 +23,21 @@ def prefixes():
     for length in range(256):
         n = octets(length)
         print("octets", length, "none" if n is None else n)
-    zeros, last, first = bytes(16), bytes(15) + b"\x01", b"\x80" + bytes(15)
-    for l, a, m, b in [(64, zeros, 64, zeros), (64, zeros, 63, zeros), (64, zeros, 64, last),
-                       (64, first, 64, zeros), (0, first, 0, first), (128, last, 128, last),
+    zeros, first, middle, last = (bit.to_bytes(16, "big") for bit in (0, 1 << 127, 1 << 63, 1))
+    for l, a, m, b in [(0, first, 0, zeros), (1, first, 1, zeros), (64, middle, 64, zeros),
+                       (65, middle, 65, zeros), (127, zeros, 127, last), (128, zeros, 128, last),
+                       (128, last, 128, last), (64, zeros, 63, zeros),
                        (129, zeros, 129, zeros), (128, zeros, 129, zeros),
                        (129, zeros, 128, zeros), (255, zeros, 0, zeros)]:
         if l > 128 or m > 128:
             answer = "refused 10"
         else:
-            answer = "same" if (l, a) == (m, b) else "different"
+            answer = "same" if (l, bits(a)[:l]) == (m, bits(b)[:m]) else "different"
         print("compare", l, m, answer)
+
+
+def bits(address):
+    return "".join(f"{byte:08b}" for byte in address)
 
 
 def signed(n):

@@ -276,19 +276,26 @@ static void newness(void)
     check(ospf_newness(1, first, 19, first, 19) == refused(OSPF_REFUSED_VERSION, 0), "newness in version 1");
 }
 
-/* Prefixes by their octets as packets have them, with zeros left out or put in; each refusal of the comparison. */
+/* Prefixes by their octets as packets have them, with zeros left out or put in, and with junk past their length; each refusal of the
+   comparison. */
 static void prefixes(void)
 {
     const uint8_t first[8] = {0x20, 1, 0x0D, 0xB8, 0x50, 0, 0, 0}, second[5] = {0x20, 1, 0x0D, 0xB8, 0x51};
+    const uint8_t other[4] = {0x20, 1, 0x0D, 0xB9};
     const uint8_t last[16] = {0x20, 1, 0x0D, 0xB8, 0, 0, 0, 0, 0, 0, 0, 0, 0, 0, 0, 1};
     const uint8_t longer[17] = {0x20, 1, 0x0D, 0xB8, 0x50, 0, 0, 0, 0, 0, 0, 0, 0, 0, 0, 0, 0xFF};
-    check(ospf_prefix_compare(36, first, 8, 36, first, 5) == OSPF_PREFIX_SAME, "zeros left out");
-    check(ospf_prefix_compare(36, first, 8, 36, longer, 17) == OSPF_PREFIX_SAME, "a byte past 16");
-    check(ospf_prefix_compare(36, first, 8, 36, second, 5) == OSPF_PREFIX_DIFFERENT, "a byte that differs");
+    check(ospf_prefix_compare(128, first, 8, 128, first, 5) == OSPF_PREFIX_SAME, "zeros left out");
+    check(ospf_prefix_compare(128, first, 8, 128, longer, 17) == OSPF_PREFIX_SAME, "a byte past 16");
+    check(ospf_prefix_compare(39, first, 8, 39, second, 5) == OSPF_PREFIX_SAME, "a bit past the length");
+    check(ospf_prefix_compare(40, first, 8, 40, second, 5) == OSPF_PREFIX_DIFFERENT, "the last bit");
+    check(ospf_prefix_compare(39, first, 8, 39, longer, 17) == OSPF_PREFIX_SAME, "all octets");
+    check(ospf_prefix_compare(8, first, 8, 8, second, 5) == OSPF_PREFIX_SAME, "the first byte");
+    check(ospf_prefix_compare(32, second, 5, 32, other, 4) == OSPF_PREFIX_DIFFERENT, "the last bit of a word");
+    check(ospf_prefix_compare(31, second, 5, 31, other, 4) == OSPF_PREFIX_SAME, "the bit past 31");
     check(ospf_prefix_compare(36, first, 8, 37, first, 8) == OSPF_PREFIX_DIFFERENT, "lengths that differ");
-    check(ospf_compared(ospf_prefix_compare(0, first, 0, 0, second, 0)) == OSPF_PREFIX_SAME, "no octets");
-    check(ospf_prefix_compare(128, last, 16, 128, last, 15) == OSPF_PREFIX_DIFFERENT, "the last byte");
-    check(ospf_prefix_compare(128, first, 8, 128, first, 8) == OSPF_PREFIX_SAME, "128 bits");
+    check(ospf_compared(ospf_prefix_compare(0, first, 0, 0, second, 5)) == OSPF_PREFIX_SAME, "no bits");
+    check(ospf_prefix_compare(128, last, 16, 128, last, 15) == OSPF_PREFIX_DIFFERENT, "the last bit of 128");
+    check(ospf_prefix_compare(127, last, 16, 127, last, 15) == OSPF_PREFIX_SAME, "the bit past 127");
     check(ospf_prefix_compare(129, first, 8, 36, first, 8) == refused(OSPF_REFUSED_PREFIX_LENGTH, 0), "129, first");
     check(ospf_prefix_compare(36, first, 8, 129, first, 8) == refused(OSPF_REFUSED_PREFIX_LENGTH, 0), "129, second");
 }

@@ -1,8 +1,8 @@
--- Propositions that a test decides: a comparison, either of two, and that a version is known.
+-- Propositions that a test decides: a comparison, either of two, and that a version is known; and tests that decide the same.
 use Prim.Native.Nat.{ℕ, ◌<◌}
 use native.Mathlib.Omega.{arith}
 use mathlib.Core.Path.{◌≡◌, refl}
-use mathlib.Core.Logic.{◌⊎◌, inl, inr, ⊎_elim}
+use mathlib.Core.Logic.{◌↔◌, ◌⊎◌, inl, inr, ⊎_elim}
 use mathlib.Core.Bool.{Bool, true, false, cond}
 use lib.Dec.{ltb, eqb}
 use borrow.Author.Tests.{ltb-true, ltb-false, eqb-true, eqb-false}
@@ -19,7 +19,7 @@ less a b = go (ltb a b) refl
     go true e = holds (ltb-true a b e)
     go false e = fails (λ h. let q = ltb-false a b e in omega arith)
 
-equal : (a b : ℕ) → Decided (a ≡ b) (eqb a b)
+pub equal : (a b : ℕ) → Decided (a ≡ b) (eqb a b)
 equal a b = go (eqb a b) refl
   where
     go : (t : Bool) → eqb a b ≡ t → Decided (a ≡ b) t
@@ -30,6 +30,12 @@ pub either : {p q : Type 0} {s t : Bool} → Decided p s → Decided q t → Dec
 either (holds h) d = holds (inl h)
 either (fails f) (holds h) = holds (inr h)
 either (fails f) (fails g) = fails (λ h. ⊎_elim f g h)
+
+pub alike : {p q : Type 0} {s t : Bool} → Decided p s → Decided q t → p ↔ q → s ≡ t
+alike (holds h) (holds i) e = refl
+alike (holds h) (fails g) e = absurd (g (e.0 h))
+alike (fails f) (holds i) e = absurd (f (e.1 i))
+alike (fails f) (fails g) e = refl
 
 pub version : (v : ℕ) → Decided ((v ≡ 2) ⊎ (v ≡ 3)) (is_known v)
 version v = either (equal v 2) (equal v 3)

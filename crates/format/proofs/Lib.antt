@@ -1,6 +1,8 @@
 -- The theorems about the definitions.
 pub mod Bytes
 pub mod SameBytes
+pub mod Decided
+pub mod Bits
 pub mod Strip
 pub mod Wrote
 pub mod Read
@@ -16,7 +18,6 @@ pub mod Lengths
 pub mod Lent
 pub mod Bounds
 pub mod Sizes
-pub mod Decided
 pub mod Newness
 pub mod Newer
 pub mod Checksum

@@ -1,21 +1,25 @@
--- Prefixes: their octets and addresses are of the right length, and comparison decides equality.
-use Prim.Native.Nat.{ℕ, ◌+◌, ◌*◌, ◌/◌, ◌-◌, ◌≤◌, ◌<◌}
+-- Prefixes: their octets and addresses are of the right length; when each answer of the comparison is given, and what a reader
+-- expects of being the same.
+use Prim.Native.Nat.{ℕ, ◌+◌, ◌*◌, ◌/◌, ◌%◌, ◌^◌, ◌-◌, ◌≤◌, ◌<◌}
+use native.Mathlib.Nat.{div-one}
 use native.Mathlib.Omega.{arith}
-use mathlib.Core.Path.{◌≡◌, refl}
-use mathlib.Core.Logic.{◌⊎◌, inl, inr}
+use mathlib.Core.Path.{◌≡◌, refl, sym, ◌∙◌}
+use mathlib.Core.Logic.{◌↔◌, ◌⊎◌, inl, inr, ⊎_elim}
 use mathlib.Core.Bool.{Bool, true, false, cond}
-use mathlib.Core.List.{List, ◌++◌, append_assoc}
+use mathlib.Core.List.{List, ◌∷◌, ◌++◌, append_assoc}
 use mathlib.Core.Option.{Option, none, some}
-use lib.ListN.{length, take, replicate, length-append, length-replicate, replicate-append-replicate}
-use lib.Seq.{length-take-le, take-append-le, take_at}
-use lib.Dec.{leb, ltb, eqb}
-use borrow.Author.Tests.{leb-true, ltb-true, ltb-false, lt-ltb, le-ltb, eqb-true, eqb-false, eq-eqb}
-use Rattle.format.specs.Bytes.{same_bytes}
-use Rattle.format.specs.Prefix.{octets, address, Comparison, comparison}
+use lib.ListN.{length, get_or, take, replicate, length-append, length-replicate, replicate-append-replicate, get_or-replicate, get_or-append, get_or-eq_default}
+use lib.Seq.{ext_get_or, get_or-take, get_or-append_right, length-take-le, take-append-le, take_at}
+use lib.Pow.{shr-shr}
+use lib.Dec.{leb}
+use borrow.Author.Tests.{leb-true}
+use Rattle.format.specs.Prefix.{octets, address, same_bits, Comparison, comparison}
 use Rattle.format.specs.Prefix.Comparison.{same, different, refused}
-use Rattle.format.specs.Refusals.{Compares}
+use Rattle.format.specs.Refusals.{bit, Agree, Compares}
 use Rattle.format.specs.V3.{prefix_fits}
-use Rattle.format.proofs.SameBytes.{same_bytes_lem, same_bytes_self}
+use Rattle.format.proofs.Bits.{same_bits_lem, byte_word, same_front}
+use Rattle.format.proofs.Decided.{Decided, less, equal, alike}
+use Rattle.format.proofs.Decided.Decided.{holds, fails}
 
 -- A prefix has at most 16 octets, in whole words of 32 bits.
 pub octets_bound : (l n : ℕ) → octets l ≡ some n → (l ≤ 128) × (n ≤ 16)
@@ -60,52 +64,119 @@ pub address-cut : (bs : List ℕ) → 16 ≤ length bs → address bs ≡ take 1
 unfolding address
 address-cut bs h = take-append-le 16 bs (replicate 16 0) h
 
--- What each answer of the comparison says.
+-- So a byte of the address is the octet there, or the zero that stands for none; and addresses are compared as their octets are.
+address_at : (bs : List ℕ) (k : ℕ) → k < 16 → get_or (address bs) k 0 ≡ get_or bs k 0
+unfolding address
+address_at bs k h = get_or-take 16 (bs ++ replicate 16 0) k 0 h ∙ go (less k (length bs))
+  where
+    go : {t : Bool} → Decided (k < length bs) t → get_or (bs ++ replicate 16 0) k 0 ≡ get_or bs k 0
+    go (holds i) = get_or-append bs (replicate 16 0) 0 k i
+    go (fails i) =
+        get_or-append_right bs (replicate 16 0) k 0 (omega arith) ∙ get_or-replicate {A = ℕ} 16 (k - length bs) 0 0 (omega arith) ∙ sym (get_or-eq_default bs 0 (omega arith))
+
+pub same_octets : (l : ℕ) (a b : List ℕ) → l ≤ 128 → same_bits l (address a) (address b) ≡ same_bits l a b
+same_octets l a b h = alike (same_bits_lem l (address a) (address b)) (same_bits_lem l a b) (
+  λ f i k. rw (address_at a (i / 8) (omega arith), address_at b (i / 8) (omega arith)) at (f i k),
+  λ f i k. rw (address_at a (i / 8) (omega arith), address_at b (i / 8) (omega arith)) (f i k),
+)
+
 module _ (l : ℕ) (a : List ℕ) (m : ℕ) (b : List ℕ) where
+  -- What each answer of the comparison says.
   abbrev Says : Comparison → Type 0
-  Says same = (l ≤ 128) × (m ≤ 128) × (l ≡ m) × (a ≡ b)
-  Says different = (l ≤ 128) × (m ≤ 128) × (l ≡ m → a ≡ b → ⊥)
+  Says same = (l ≤ 128) × (m ≤ 128) × (l ≡ m) × Agree l a b
+  Says different = (l ≤ 128) × (m ≤ 128) × (l ≡ m → Agree l a b → ⊥)
   Says (refused n) = (n ≡ 10) × ((128 < l) ⊎ (128 < m))
 
   says : Says (comparison l a m b)
   unfolding comparison
-  says = go (ltb 128 l) refl (ltb 128 m) refl (eqb l m) refl (same_bytes a b) refl
+  says = go (less 128 l) (less 128 m) (equal l m) (same_bits_lem l a b)
     where
-      go : (s : Bool) → ltb 128 l ≡ s → (t : Bool) → ltb 128 m ≡ t → (u : Bool) → eqb l m ≡ u → (w : Bool) → same_bytes a b ≡ w → Says (comparison l a m b)
-      go true h t i u j w k = rw h (refl, inl (ltb-true 128 l h))
-      go false h true i u j w k = rw (h, i) (refl, inr (ltb-true 128 m i))
-      go false h false i true j true k = rw (h, i, j, k) (ltb-false 128 l h, ltb-false 128 m i, eqb-true l m j, same_bytes_lem a b k)
-      go false h false i true j false k =
-          rw (h, i, j, k) (ltb-false 128 l h, ltb-false 128 m i, λ e f. let z : ◌≡◌ {A = Bool} true false = cc (same_bytes_self a, k) in let y : ◌≡◌ {A = ℕ} 0 1 = cc in omega arith)
-      go false h false i false j w k = rw (h, i, j) (ltb-false 128 l h, ltb-false 128 m i, λ e f. eqb-false l m j e)
+      go : {s t u w : Bool} → Decided (128 < l) s → Decided (128 < m) t → Decided (l ≡ m) u → Decided (Agree l a b) w
+          → Says (cond s (refused 10) (cond t (refused 10) (cond u (cond w same different) different)))
+      go (holds h) i j k = (refl, inl h)
+      go (fails h) (holds i) j k = (refl, inr i)
+      go (fails h) (fails i) (holds j) (holds k) = (omega arith, omega arith, j, k)
+      go (fails h) (fails i) (holds j) (fails k) = (omega arith, omega arith, λ e f. k f)
+      go (fails h) (fails i) (fails j) k = (omega arith, omega arith, λ e f. j e)
 
-  too_long : (128 < l) ⊎ (128 < m) → comparison l a m b ≡ refused 10
-  unfolding comparison
-  too_long (inl h) = rw (lt-ltb 128 l h)
-  too_long (inr h) = go (ltb 128 l) (lt-ltb 128 m h)
-    where
-      go : (t : Bool) → ltb 128 m ≡ true → cond t (refused 10) (cond (ltb 128 m) (refused 10) (cond (eqb l m) (cond (same_bytes a b) same different) different)) ≡ refused 10
-      go true e = refl
-      go false e = rw e
+  in_range : (l ≤ 128) → (m ≤ 128) → (128 < l) ⊎ (128 < m) → ⊥
+  in_range h i = ⊎_elim (λ j. omega arith) (λ j. omega arith)
 
-  alike : l ≤ 128 → m ≤ 128 → l ≡ m → a ≡ b → comparison l a m b ≡ same
-  unfolding comparison
-  alike h k e f = rw (le-ltb 128 l h, le-ltb 128 m k, eq-eqb l m e, ← f, same_bytes_self a)
-
-  unlike : l ≤ 128 → m ≤ 128 → (l ≡ m → a ≡ b → ⊥) → comparison l a m b ≡ different
-  unfolding comparison
-  unlike h k n = rw (le-ltb 128 l h, le-ltb 128 m k) (go (eqb l m) refl (same_bytes a b) refl)
-    where
-      go : (t : Bool) → eqb l m ≡ t → (u : Bool) → same_bytes a b ≡ u → cond t (cond u same different) different ≡ different
-      go true e true f = absurd (n (eqb-true l m e) (same_bytes_lem a b f))
-      go true e false f = refl
-      go false e u f = refl
+  -- No two answers say what holds at once.
+  only : (c d : Comparison) → Says c → Says d → c ≡ d
+  only same same h k = refl
+  only same different h k = absurd (k.2 h.2 h.3)
+  only same (refused n) h k = absurd (in_range h.0 h.1 k.1)
+  only different same h k = absurd (h.2 k.2 k.3)
+  only different different h k = refl
+  only different (refused n) h k = absurd (in_range h.0 h.1 k.1)
+  only (refused n) same h k = absurd (in_range k.0 k.1 h.1)
+  only (refused n) different h k = absurd (in_range k.0 k.1 h.1)
+  only (refused n) (refused o) h k = cc
 
   -- Each answer, exactly when.
   pub compares : Compares l a m b
   compares = record {
-    ten = (λ e. (rw e at says).1, too_long);
-    are_same = (λ e. rw e at says, λ h. alike h.0 h.1 h.2 h.3);
-    are_different = (λ e. rw e at says, λ h. unlike h.0 h.1 h.2);
+    ten = (λ e. (rw e at says).1, λ h. only _ (refused 10) says (refl, h));
+    are_same = (λ e. rw e at says, λ h. only _ same says h);
+    are_different = (λ e. rw e at says, λ h. only _ different says h);
     no_other = λ n e. (rw e at says).0;
   }
+
+-- Being the same is an equivalence. A prefix is the same as itself, and which of two comes first does not matter, for refusals too.
+pub same_self : (l : ℕ) (a : List ℕ) → l ≤ 128 → comparison l a l a ≡ same
+same_self l a h = (compares l a l a).are_same.1 (h, h, refl, λ i k. refl)
+
+pub same_swap : (l : ℕ) (a : List ℕ) (m : ℕ) (b : List ℕ) → comparison m b l a ≡ comparison l a m b
+same_swap l a m b = only m b l a _ _ (says m b l a) (swapped (comparison l a m b) (says l a m b))
+  where
+    swapped : (c : Comparison) → Says l a m b c → Says m b l a c
+    swapped same h = (h.1, h.0, sym h.2, λ i k. sym (h.3 i (rw h.2 k)))
+    swapped different h = (h.1, h.0, λ e f. h.2 (sym e) (λ i k. sym (f i (rw e k))))
+    swapped (refused n) h = (h.0, ⊎_elim inr inl h.1)
+
+pub same_trans : (l : ℕ) (a : List ℕ) (m : ℕ) (b : List ℕ) (n : ℕ) (c : List ℕ)
+    → comparison l a m b ≡ same → comparison m b n c ≡ same → comparison l a n c ≡ same
+same_trans l a m b n c e f =
+    let x = (compares l a m b).are_same.0 e in
+    let y = (compares m b n c).are_same.0 f in
+    (compares l a n c).are_same.1 (x.0, y.1, x.2 ∙ y.2, λ i k. x.3 i k ∙ y.3 i (rw (← x.2) k))
+
+-- Prefixes of one length whose addresses are equal are the same.
+pub equal_same : (l : ℕ) (a : List ℕ) (m : ℕ) (b : List ℕ) → l ≤ 128 → l ≡ m → a ≡ b → comparison l a m b ≡ same
+equal_same l a m b h e f = rw (← e, f) (same_self l b h)
+
+-- What stands past the length does not matter: the whole bytes before it agree, and of the next byte the first bits.
+pub padding : (l : ℕ) (a b : List ℕ) → l ≤ 128 → ((k : ℕ) → k < l / 8 → get_or a k 0 ≡ get_or b k 0)
+    → get_or a (l / 8) 0 / 2 ^ (8 - l % 8) ≡ get_or b (l / 8) 0 / 2 ^ (8 - l % 8) → comparison l a l b ≡ same
+padding l a b h whole e = (compares l a l b).are_same.1 (h, h, refl, λ i k. each i k (less (i / 8) (l / 8)))
+  where
+    each : (i : ℕ) → i < l → {t : Bool} → Decided (i / 8 < l / 8) t → bit a i ≡ bit b i
+    each i k (holds f) = rw (whole (i / 8) f)
+    each i k (fails f) =
+        let q : i / 8 ≡ l / 8 = omega arith in
+        let r : 7 - i % 8 ≡ 8 - l % 8 + (l % 8 - 1 - i % 8) = omega arith in
+        rw (q, r, ← shr-shr, ← shr-shr, e)
+
+-- A length of 0 makes all the same.
+pub same_at_0 : (a b : List ℕ) → comparison 0 a 0 b ≡ same
+same_at_0 a b = (compares 0 a 0 b).are_same.1 (omega arith, omega arith, refl, λ i k. absurd (omega arith))
+
+-- One of 128 compares all 16 bytes.
+pub same_at_128 : (a b : List ℕ) → length a ≡ 16 → length b ≡ 16 → ((k : ℕ) → get_or a k 0 < 256) → ((k : ℕ) → get_or b k 0 < 256)
+    → (comparison 128 a 128 b ≡ same) ↔ (a ≡ b)
+same_at_128 a b la lb bytes_a bytes_b = (λ e. ext_get_or 0 a b (la ∙ sym lb) (λ k h. byte ((compares 128 a 128 b).are_same.0 e).3 k (omega arith)), λ e. equal_same 128 a 128 b (omega arith) refl e)
+  where
+    byte : Agree 128 a b → (k : ℕ) → k < 16 → get_or a k 0 ≡ get_or b k 0
+    byte f k h = rw (div-one, div-one) at (same_front (byte_word a bytes_a k) (byte_word b bytes_b k) 8 (omega arith) (λ i j. f (k * 8 + i) (omega arith)))
+
+-- A network of 36 bits with zeros after them and with ones; under a length of 37 they are two.
+abbrev zeros_after : List ℕ
+zeros_after = 0x20 ∷ 0x01 ∷ 0x0d ∷ 0xb8 ∷ 0x50 ∷ replicate 11 0
+
+abbrev ones_after : List ℕ
+ones_after = 0x20 ∷ 0x01 ∷ 0x0d ∷ 0xb8 ∷ 0x5f ∷ replicate 11 0xff
+
+pub worked_prefixes : (comparison 36 zeros_after 36 ones_after ≡ same) × (comparison 37 zeros_after 37 ones_after ≡ different)
+unfolding comparison same_bits
+worked_prefixes = (refl, refl)

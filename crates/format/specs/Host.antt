@@ -7,7 +7,7 @@ use Rattle.format.specs.Fletcher.{NoLsa, Lsa, Good, Made}
 use Rattle.format.specs.Strip.{Entry}
 use Rattle.format.specs.Laid.{Laid, anything}
 use Rattle.format.specs.Part.{GivesBack}
-use Rattle.format.specs.Refusals.{Numbers, TooMuch, TooFar, NewnessRefusals, Kind, entry_end}
+use Rattle.format.specs.Refusals.{Numbers, TooMuch, TooFar, Agree, NewnessRefusals, Kind, entry_end}
 use Rattle.format.specs.Shown.{HeadersShow, UpdateShows, OneShows}
 
 -- The low 32 bits, and the 8 above them.
@@ -63,7 +63,7 @@ filled a = take 16 (a ++ replicate 16 0)
 pub record PrefixHost (l : ℕ) (a : List ℕ) (m : ℕ) (b : List ℕ) (r : ℕ) : Type 0 where
   pub ten : (number_in r ≡ 10) ↔ ((128 < l) ⊎ (128 < m))
   pub zero : (number_in r ≡ 0) ↔ ((l ≤ 128) × (m ≤ 128))
-  pub same : (result_in r ≡ 1) ↔ ((l ≤ 128) × (m ≤ 128) × (l ≡ m) × (filled a ≡ filled b))
+  pub same : (result_in r ≡ 1) ↔ ((l ≤ 128) × (m ≤ 128) × (l ≡ m) × Agree l (filled a) (filled b))
   pub no_other : result_in r ≤ 1
   pub other_bits : r / 1099511627776 ≡ 0
 

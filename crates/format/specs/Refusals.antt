@@ -1,6 +1,6 @@
 -- Places where a call is turned down: the table of the requirements, in its own numbers. Each number is answered exactly
 -- when its condition holds and none before it does, and in no other case.
-use Rattle.std.specs.Prelude.{ℕ, ◌+◌, ◌-◌, ◌≤◌, ◌<◌, ◌≡◌, ◌↔◌, ◌⊎◌, List, [], ◌∷◌, length, get_or, take, drop}
+use Rattle.std.specs.Prelude.{ℕ, ◌+◌, ◌-◌, ◌/◌, ◌%◌, ◌^◌, ◌≤◌, ◌<◌, ◌≡◌, ◌↔◌, ◌⊎◌, List, [], ◌∷◌, length, get_or, take, drop}
 use Rattle.format.specs.Strip.{Entry, entry_at, step_at}
 use Rattle.format.specs.Strip.Step.{entry, end, refused}
 use Rattle.format.specs.Prefix.{comparison}
@@ -74,11 +74,19 @@ pub record Parts (packet : List ℕ) (o s e : ℕ) : Type 0 where
   pub empty : part_number (length packet) o s e ≡ 9 → (part_of packet o s e ≡ []) × (part_place (length packet) o s e ≡ 0)
   pub there : part_number (length packet) o s e ≡ 0 → (part_of packet o s e ≡ take (e - s) (drop (s - o) packet)) × (part_place (length packet) o s e ≡ s - o)
 
--- The prefix comparison. 10: either length is above 128. Prefixes are the same where the lengths agree and all bytes agree.
+-- Bit i of an address: eight to a byte, the one of the weight 128 first. And that the first n bits of two addresses agree.
+abbrev pub bit : List ℕ → ℕ → ℕ
+bit a i = get_or a (i / 8) 0 / 2 ^ (7 - i % 8) % 2
+
+abbrev pub Agree : ℕ → List ℕ → List ℕ → Type 0
+Agree n a b = (i : ℕ) → i < n → bit a i ≡ bit b i
+
+-- The prefix comparison. 10: either length is above 128. Prefixes are the same where the lengths agree and so do the first bits,
+-- as many as the length says.
 pub record Compares (l : ℕ) (a : List ℕ) (m : ℕ) (b : List ℕ) : Type 0 where
   pub ten : (comparison l a m b ≡ incomparable 10) ↔ ((128 < l) ⊎ (128 < m))
-  pub are_same : (comparison l a m b ≡ same) ↔ ((l ≤ 128) × (m ≤ 128) × (l ≡ m) × (a ≡ b))
-  pub are_different : (comparison l a m b ≡ different) ↔ ((l ≤ 128) × (m ≤ 128) × (l ≡ m → a ≡ b → ⊥))
+  pub are_same : (comparison l a m b ≡ same) ↔ ((l ≤ 128) × (m ≤ 128) × (l ≡ m) × Agree l a b)
+  pub are_different : (comparison l a m b ≡ different) ↔ ((l ≤ 128) × (m ≤ 128) × (l ≡ m → Agree l a b → ⊥))
   pub no_other : (n : ℕ) → comparison l a m b ≡ incomparable n → n ≡ 10
 
 -- The number of a header that is read by version and bytes, and of newness, 0 where there is no refusal.

@@ -19,16 +19,20 @@ fn every_length(to: &mut impl Write) -> io::Result<()> {
 
 fn comparisons(to: &mut impl Write) -> io::Result<()> {
     let zeros = [0u8; 16];
-    let mut last = [0u8; 16];
-    last[15] = 1;
     let mut first = [0u8; 16];
     first[0] = 128;
-    print_comparison(to, 64, zeros, 64, zeros)?;
-    print_comparison(to, 64, zeros, 63, zeros)?;
-    print_comparison(to, 64, zeros, 64, last)?;
-    print_comparison(to, 64, first, 64, zeros)?;
-    print_comparison(to, 0, first, 0, first)?;
+    let mut middle = [0u8; 16];
+    middle[8] = 128;
+    let mut last = [0u8; 16];
+    last[15] = 1;
+    print_comparison(to, 0, first, 0, zeros)?;
+    print_comparison(to, 1, first, 1, zeros)?;
+    print_comparison(to, 64, middle, 64, zeros)?;
+    print_comparison(to, 65, middle, 65, zeros)?;
+    print_comparison(to, 127, zeros, 127, last)?;
+    print_comparison(to, 128, zeros, 128, last)?;
     print_comparison(to, 128, last, 128, last)?;
+    print_comparison(to, 64, zeros, 63, zeros)?;
     print_comparison(to, 129, zeros, 129, zeros)?;
     print_comparison(to, 128, zeros, 129, zeros)?;
     print_comparison(to, 129, zeros, 128, zeros)?;
@@ -52,11 +56,11 @@ fn print_comparison(to: &mut impl Write, l: u8, a: [u8; 16], m: u8, b: [u8; 16])
     let answer = compare_prefixes(
         Prefix {
             length: l,
-            address: a,
+            octets: &a,
         },
         Prefix {
             length: m,
-            address: b,
+            octets: &b,
         },
     );
     match answer {

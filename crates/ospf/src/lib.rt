@@ -19,7 +19,7 @@ use checksum::{check_checksum, make_checksum};
 use header::{Newness, newer_lsa};
 use refusal::Refusal;
 use strip_step::step_at;
-use tlv::{Prefix, compare_prefixes, prefix_to_ipv6};
+use tlv::{Prefix, compare_prefixes};
 use trailer::{Block, push_auth_trailer, push_lls};
 use walk_answer::Answer;
 
@@ -66,7 +66,8 @@ pub extern "C" fn ospf_newness(version: u8, first: &[u8], second: &[u8]) -> u64
     }))
 }
 
-// Whether two prefixes are the same: 1 or 0. Each is a length in bits and octets as they lie in a packet.
+// Whether two prefixes are the same: 1 or 0. Each is a length in bits and octets as they lie in a packet; the bits past the
+// length are not looked at.
 #[unsafe(no_mangle)]
 pub extern "C" fn ospf_prefix_compare(
     first_length: u8,
@@ -78,11 +79,11 @@ pub extern "C" fn ospf_prefix_compare(
 {
     let a = Prefix {
         length: first_length,
-        address: prefix_to_ipv6(first),
+        octets: first,
     };
     let b = Prefix {
         length: second_length,
-        address: prefix_to_ipv6(second),
+        octets: second,
     };
     answer_word(compare_prefixes(a, b).map(usize::from))
 }

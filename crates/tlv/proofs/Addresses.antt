@@ -1,11 +1,9 @@
 -- An address that is filled in over 16 zeros, and prefixes that are compared by their parts.
-use Rattle.std.proofs.Common.{◌≡◌, ℕ, ◌+◌, ◌-◌, ◌≤◌, min, Bool, true, false, cond, ◌&&◌, nat_eq, List, [], ◌∷◌, ◌++◌, length, take, drop, replicate, Ok, refl, sym, inl, inr, arith, le-ltb}
-use Rattle.std.specs.Cmp.Lexicographic.{pointwise}
+use Rattle.std.proofs.Common.{◌≡◌, ℕ, ◌+◌, ◌-◌, ◌≤◌, min, Bool, true, false, cond, ◌&&◌, nat_eq, List, ◌++◌, length, take, drop, replicate, Ok, refl, sym, inl, inr, arith, le-ltb}
 use Rattle.std.proofs.lemmas.List.{take-append-le, take_all, take-replicate, drop-replicate, drop_all, length-replicate, append-nil}
 use Rattle.std.proofs.lemmas.Bool.{cases_lt}
 use Rattle.std.proofs.Math.Seq.{take-append-add}
-use Rattle.format.specs.Bytes.{same_bytes}
-use Rattle.format.specs.Prefix.{address, comparison, same, different}
+use Rattle.format.specs.Prefix.{address, same_bits, comparison, same, different}
 use Rattle.tlv.specs.Answers.{comparison_meaning}
 
 -- The first m of a list with m of z after it: so much of the list, and z for what it lacks.
@@ -25,18 +23,11 @@ pub filled : (bs : List ℕ) (n : ℕ) → n ≡ min (length bs) 16 → take n b
 unfolding address
 filled bs n h = first_of 16 bs 0 n h
 
-pub same_bytes-pointwise : (xs ys : List ℕ) → same_bytes xs ys ≡ pointwise nat_eq xs ys
-unfolding same_bytes
-same_bytes-pointwise [] [] = refl
-same_bytes-pointwise [] (y ∷ ys) = refl
-same_bytes-pointwise (x ∷ xs) [] = refl
-same_bytes-pointwise (x ∷ xs) (y ∷ ys) = rw (same_bytes-pointwise xs ys) (elim (nat_eq x y) as (λ b. cond b (pointwise nat_eq xs ys) false ≡ b && pointwise nat_eq xs ys) [ true ↦ refl | false ↦ refl ])
-
 by_parts : (s t : Bool) → comparison_meaning (Ok (s && t)) ≡ cond s (cond t same different) different
 by_parts true true = refl
 by_parts true false = refl
 by_parts false t = refl
 
-pub compared : (l : ℕ) (a : List ℕ) (m : ℕ) (b : List ℕ) (r : Bool) → l ≤ 128 → m ≤ 128 → r ≡ nat_eq l m && pointwise nat_eq a b → comparison_meaning (Ok r) ≡ comparison l a m b
+pub compared : (l : ℕ) (a : List ℕ) (m : ℕ) (b : List ℕ) (r : Bool) → l ≤ 128 → m ≤ 128 → r ≡ nat_eq l m && same_bits l a b → comparison_meaning (Ok r) ≡ comparison l a m b
 unfolding comparison
-compared l a m b r h k e = rw (le-ltb 128 l h, le-ltb 128 m k, same_bytes-pointwise a b, e) (by_parts (nat_eq l m) (pointwise nat_eq a b))
+compared l a m b r h k e = rw (le-ltb 128 l h, le-ltb 128 m k, e) (by_parts (nat_eq l m) (same_bits l a b))

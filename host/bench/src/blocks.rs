@@ -9,7 +9,7 @@ use inputs::Input;
 use oracle::{Call, Walk};
 use ospf_strip::exports;
 
-use crate::{columns, count, figures, time};
+use crate::{columns, each};
 
 /// One way to read all blocks of a row. Each is a function of its own, so that
 /// it calls what it measures by name, as a program would.
@@ -70,20 +70,12 @@ pub fn print(rounds: usize) {
     println!("the blocks: nanoseconds a reading, medians of {rounds} interleaved runs;");
     println!("instructions a reading, by callgrind");
     print!("{:26}", "");
-    columns();
+    columns("reference");
     for (row, (name, walk, ..)) in BLOCKS.into_iter().enumerate() {
         print!("{name:26} |");
         let mut blocks = Blocks::new(row);
-        let each = blocks.inputs.len() as f64;
-        figures(time::medians(&mut blocks, ways(walk), rounds).map(|ns| ns / each));
-        print!(" |");
-        match [0, 1, 2].map(|way| count::of_a_pass("block", &[row, way])) {
-            [Some(port), Some(careful), Some(reference)] => {
-                figures([port, careful, reference].map(|n| n as f64 / each));
-            }
-            _ => print!(" not counted: no valgrind"),
-        }
-        println!();
+        let calls = blocks.inputs.len();
+        each(&mut blocks, calls, ways(walk), rounds, ("block", &[row]));
     }
 }
 

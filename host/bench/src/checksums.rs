@@ -8,7 +8,7 @@ use bench::careful::checksum::{CAREFUL, PLAIN};
 use checksum::{Checksum, PROVED};
 use inputs::Rng;
 
-use crate::{MOST, count, figures, time};
+use crate::{MOST, columns, each};
 
 /// The ways, in the order in which they are printed.
 const WAYS: [Checksum; 3] = [PROVED, CAREFUL, PLAIN];
@@ -68,11 +68,7 @@ pub fn print(rounds: usize) {
     println!("the LS checksum: nanoseconds a record, medians of {rounds} interleaved runs;");
     println!("instructions a record, by callgrind");
     print!("{:26}", "");
-    for _ in 0..2 {
-        print!(" |{:>9}{:>9}{:>10}", "port", "careful", "plain");
-        print!("{:>6}{:>6}", "p/c", "p/p");
-    }
-    println!();
+    columns("plain");
     for (number, (call, name)) in CALLS.into_iter().enumerate() {
         for row in 0..=LENGTHS.len() {
             let length = match row.checked_sub(1) {
@@ -81,18 +77,15 @@ pub fn print(rounds: usize) {
             };
             print!("{:26} |", format!("{name}, {length} bytes"));
             let mut records = Records::new(row);
-            let each = records.0.len() as f64;
+            let calls = records.0.len();
             let runs = WAYS.map(|way| move |records: &mut Records| records.run(way, call));
-            figures(time::medians(&mut records, runs, rounds).map(|ns| ns / each));
-            print!(" |");
-            let counted = [0, 1, 2].map(|way| count::of_a_pass("checksum", &[row, number, way]));
-            match counted {
-                [Some(port), Some(careful), Some(plain)] => {
-                    figures([port, careful, plain].map(|n| n as f64 / each));
-                }
-                _ => print!(" not counted: no valgrind"),
-            }
-            println!();
+            each(
+                &mut records,
+                calls,
+                runs,
+                rounds,
+                ("checksum", &[row, number]),
+            );
         }
     }
 }

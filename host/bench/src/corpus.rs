@@ -266,6 +266,38 @@ pub fn blocks(row: usize) -> Vec<Input> {
     (0..64).map(block).collect()
 }
 
+/// Two prefixes, each a length in bits and octets.
+pub type Prefixes = (u8, Vec<u8>, u8, Vec<u8>);
+
+/// A name, the lengths of the first and of the second prefix, and the first
+/// bit from which on they differ.
+pub const PREFIXES: [(&str, u8, u8, u8); 7] = [
+    ("no bits", 0, 0, 128),
+    ("same, 48 bits", 48, 48, 128),
+    ("same, 64 bits", 64, 64, 128),
+    ("same, 128 bits", 128, 128, 128),
+    ("same, junk past 52 bits", 52, 52, 52),
+    ("different, 64 bits", 64, 64, 16),
+    ("lengths 56 and 64", 56, 64, 56),
+];
+
+/// The pairs of a row, with random addresses, and octets as packets have them.
+pub fn prefixes(row: usize) -> Vec<Prefixes> {
+    let (_, first, second, from) = PREFIXES[row];
+    let mut rng = Rng::new(row as u64);
+    let junk = u128::MAX.checked_shr(from.into()).unwrap_or(0);
+    let octets = |length: u8, address: u128| {
+        let n = usize::from(length).div_ceil(32) * 4;
+        address.to_be_bytes()[..n].to_vec()
+    };
+    let pair = |_| {
+        let address = u128::from(rng.bits()) << 64 | u128::from(rng.bits());
+        let other = address ^ junk;
+        (first, octets(first, address), second, octets(second, other))
+    };
+    (0..64).map(pair).collect()
+}
+
 /// An input that costs a walk much, and why.
 pub struct Worst {
     pub name: &'static str,

@@ -1,14 +1,16 @@
 //! Runs the port, careful Rust and the reference over one corpus and prints
-//! what each takes, what reading every field adds, and what the LS checksum and
-//! the blocks take: `bench [ROUNDS]`; reading on a corpus of another seed:
-//! `bench reading ROUNDS SEED`; the checksum or the blocks alone: `bench
-//! checksums [ROUNDS]`, `bench blocks [ROUNDS]`. The other words are what it
-//! calls itself with, under valgrind: `count`, `checksum`, `block` and `stack`.
+//! what each takes, what reading every field adds, and what the LS checksum,
+//! the blocks and the prefix comparison take: `bench [ROUNDS]`; reading on a
+//! corpus of another seed: `bench reading ROUNDS SEED`; one of the three alone:
+//! `bench checksums [ROUNDS]`, `bench blocks [ROUNDS]`, `bench prefixes
+//! [ROUNDS]`. The other words are what it calls itself with, under valgrind:
+//! `count`, `checksum`, `block`, `prefix` and `stack`.
 
 mod blocks;
 mod checksums;
 mod count;
 mod growth;
+mod prefixes;
 mod reading;
 mod stack;
 mod time;
@@ -70,6 +72,7 @@ fn main() -> ExitCode {
         ["count", rest @ ..] => return count::child(rest),
         ["checksum", rest @ ..] => return checksums::child(rest),
         ["block", rest @ ..] => return blocks::child(rest),
+        ["prefix", rest @ ..] => return prefixes::child(rest),
         ["stack"] => stack::child(),
         ["reading", rounds, seed] => match (rounds.parse(), seed.parse()) {
             (Ok(rounds @ 1..), Ok(seed)) => reading::print_seeded(rounds, seed),
@@ -77,6 +80,7 @@ fn main() -> ExitCode {
         },
         ["checksums", rest @ ..] => return printed(checksums::print, rest),
         ["blocks", rest @ ..] => return printed(blocks::print, rest),
+        ["prefixes", rest @ ..] => return printed(prefixes::print, rest),
         rest => return printed(all, rest),
     }
     ExitCode::SUCCESS
@@ -98,7 +102,7 @@ fn printed(print: fn(usize), words: &[&str]) -> ExitCode {
 
 fn usage() -> ExitCode {
     eprintln!(
-        "usage: bench [ROUNDS], bench reading ROUNDS SEED, bench checksums [ROUNDS], or bench blocks [ROUNDS]"
+        "usage: bench [ROUNDS], bench reading ROUNDS SEED, or bench checksums, blocks or prefixes [ROUNDS]"
     );
     ExitCode::from(2)
 }
@@ -119,19 +123,21 @@ fn all(rounds: usize) {
     println!();
     blocks::print(rounds);
     println!();
+    prefixes::print(rounds);
+    println!();
     stack::print();
 }
 
 fn heading() {
     print!("{:26}{:>7}", "", "bytes");
-    columns();
+    columns("reference");
 }
 
-/// The columns of times and of instructions.
-fn columns() {
+/// The columns of times and of instructions, with this name for the third way.
+fn columns(third: &str) {
     for _ in 0..2 {
-        print!(" |{:>9}{:>9}{:>10}", "port", "careful", "reference");
-        print!("{:>6}{:>6}", "p/c", "p/r");
+        print!(" |{:>9}{:>9}{third:>10}", "port", "careful");
+        print!("{:>6}{:>6}", "p/c", format!("p/{}", &third[..1]));
     }
     println!();
 }
@@ -145,6 +151,28 @@ fn row(kind: Kind, rounds: usize) {
     match WALKS.map(|way| count::instructions(kind, MOST, way)) {
         [Some(port), Some(careful), Some(reference)] => {
             figures([port, careful, reference].map(|n| n as f64 / 1e3));
+        }
+        _ => print!(" not counted: no valgrind"),
+    }
+    println!();
+}
+
+/// The rest of a row, for a load of so many calls: the time of each, and its
+/// instructions, which this program counts when it is called with this word,
+/// these numbers and the number of a way.
+fn each<L>(
+    load: &mut L,
+    calls: usize,
+    ways: [impl Fn(&mut L) -> u64 + Copy; 3],
+    rounds: usize,
+    (word, numbers): (&str, &[usize]),
+) {
+    let calls = calls as f64;
+    figures(time::medians(load, ways, rounds).map(|ns| ns / calls));
+    print!(" |");
+    match [0, 1, 2].map(|way| count::of_a_pass(word, &[numbers, &[way]].concat())) {
+        [Some(port), Some(careful), Some(third)] => {
+            figures([port, careful, third].map(|n| n as f64 / calls));
         }
         _ => print!(" not counted: no valgrind"),
     }

@@ -1,10 +1,13 @@
 //! The hand-written walks and readings of blocks give the port's answers and
-//! strips, and the hand-written checksums those of the second implementation.
+//! strips, the hand-written comparisons of prefixes the port's answers, and the
+//! hand-written checksums those of the second implementation.
 
 use bench::careful::checksum::{CAREFUL as WORDS, PLAIN};
-use bench::corpus::{BLOCKS, KINDS, Kind, blocks, worst};
+use bench::careful::prefix::{Compare, careful, plain};
+use bench::corpus::{BLOCKS, KINDS, Kind, PREFIXES, blocks, prefixes, worst};
 use bench::{CAREFUL, PORT, walked};
 use inputs::{CLASSES, Input};
+use ospf_strip::exports;
 
 /// How much longer than needed the larger buffer is.
 const MORE: usize = 37;
@@ -71,6 +74,39 @@ fn on_the_blocks() {
             let answer = PORT.run(&input, &mut [0; 75]);
             let expected = if name.ends_with("absent") { 0 } else { length };
             assert_eq!(answer >> 32, (expected as u64) << 8, "{name}");
+        }
+    }
+}
+
+/// A row's prefixes are the same, or different, as its name says.
+#[test]
+fn on_the_prefixes() {
+    for (row, (name, ..)) in PREFIXES.into_iter().enumerate() {
+        for (l, a, m, b) in prefixes(row) {
+            let expected = u64::from(name.starts_with("same") || name == "no bits");
+            for compare in COMPARISONS {
+                assert_eq!(compare(l, &a, m, &b), expected, "{name}");
+            }
+        }
+    }
+}
+
+const COMPARISONS: [Compare; 3] = [exports::ospf_prefix_compare, careful, plain];
+
+/// Every length, with none, four, 16 and 17 octets of the first, and the
+/// second changed at every bit.
+#[test]
+fn on_all_lengths() {
+    let octets: Vec<u8> = (0..17).map(|i| 0x5B_u8.wrapping_mul(i + 1)).collect();
+    for (length, other) in (0..=255).flat_map(|l: u8| [(l, l), (l, l.wrapping_add(1))]) {
+        for bit in 0..octets.len() * 8 {
+            let mut changed = octets.clone();
+            changed[bit / 8] ^= 0x80 >> (bit % 8);
+            for n in [0, 4, 16, 17] {
+                let [port, rest @ ..] =
+                    COMPARISONS.map(|compare| compare(length, &octets[..n], other, &changed));
+                assert_eq!(rest, [port; 2], "{length} {other} {bit} {n}");
+            }
         }
     }
 }

@@ -41,6 +41,7 @@ fn other_calls_on_a_small_thread() {
         let same = ospf_strip::newness(Version::V2, &data, &data);
         assert_eq!(same, Ok(Newness::Same));
         assert_eq!(ospf_strip::same_prefix(128, &data, 128, &data), Ok(true));
+        assert_eq!(ospf_strip::same_prefix(128, &[], 128, &data), Ok(false));
 
         let mut strip = [0; 75];
         let block = ospf_strip::auth_trailer(&data, 0, &mut strip);

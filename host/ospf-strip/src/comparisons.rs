@@ -43,15 +43,19 @@ pub fn newness(version: Version, first: &[u8], second: &[u8]) -> Result<Newness,
 }
 
 /// Whether two prefixes are the same, each a length in bits and octets as
-/// they lie in a packet: zeros follow to 16, and more than 16 are cut.
+/// they lie in a packet: the lengths agree, and so do the first bits, as many
+/// as the length says. The bits past them are padding (RFC 5340 A.4.1) and may
+/// hold anything. Of the octets, zeros follow to 16, and more than 16 are cut.
 ///
 /// ```
 /// use ospf_strip::{Refusal, same_prefix};
 ///
 /// let octets = [0x20, 0x01, 0x0D, 0xB8];
-/// assert!(same_prefix(32, &octets, 32, &octets)?);
-/// assert!(!same_prefix(32, &octets, 31, &octets)?);
-/// assert_eq!(same_prefix(32, &octets, 129, &[]), Err(Refusal::PrefixLength));
+/// let junk = [0x20, 0x01, 0x0D, 0xBF]; // differs in its last three bits
+/// assert!(same_prefix(29, &octets, 29, &junk)?);
+/// assert!(!same_prefix(30, &octets, 30, &junk)?);
+/// assert!(!same_prefix(29, &octets, 28, &octets)?);
+/// assert_eq!(same_prefix(29, &octets, 129, &[]), Err(Refusal::PrefixLength));
 /// # Ok::<(), Refusal>(())
 /// ```
 ///

@@ -83,12 +83,75 @@ fn address(octets: &[u8]) -> [u8; 16] {
     std::array::from_fn(|i| octets.get(i).copied().unwrap_or(0))
 }
 
+/// The bits of an address, the first one first, as digits.
+fn bits(address: [u8; 16]) -> String {
+    address.map(|byte| format!("{byte:08b}")).concat()
+}
+
+/// The comparison by what is written: the digits of the address, as many as
+/// the length says.
+fn same(first_length: u8, first: &[u8], second_length: u8, second: &[u8]) -> Result<bool, Refusal> {
+    let prefix = |length: u8, octets| Some(bits(address(octets)).get(..length.into())?.to_owned());
+    match (prefix(first_length, first), prefix(second_length, second)) {
+        (Some(first), Some(second)) => Ok(first_length == second_length && first == second),
+        _ => Err(Refusal::PrefixLength),
+    }
+}
+
+/// Addresses of all zeros, of all ones, and of both.
+const ADDRESSES: [[u8; 16]; 4] = [
+    [0; 16],
+    [0xFF; 16],
+    [0x5A; 16],
+    [
+        0x20, 0x01, 0x0D, 0xB8, 0x80, 0x7F, 0xFE, 0x01, 0x00, 0xFF, 0x10, 0xEF, 0x33, 0xCC, 0x96,
+        0x69,
+    ],
+];
+
+/// Every length, with one bit changed at every place: only below the length
+/// it tells two prefixes apart, whichever of them comes first.
+#[test]
+fn prefixes_that_differ_in_one_bit() {
+    for first in ADDRESSES {
+        for length in 0..=128 {
+            for place in 0..128 {
+                let mut second = first;
+                second[place / 8] ^= 0x80 >> (place % 8);
+                let expected = Ok(place >= usize::from(length));
+                let found = same_prefix(length, &first, length, &second);
+                assert_eq!(found, expected, "{length} bits, bit {place}");
+                let found = same_prefix(length, &second, length, &first);
+                assert_eq!(found, expected, "{length} bits, bit {place}");
+            }
+        }
+    }
+}
+
+/// Every length, with all bits changed from a place on: one below it or at
+/// it.
+#[test]
+fn prefixes_with_junk_past_their_length() {
+    for first in ADDRESSES {
+        for length in 0..=128_u8 {
+            let past = |place: u8| u128::MAX.checked_shr(place.into()).unwrap_or(0);
+            let junk = |place| (u128::from_be_bytes(first) ^ past(place)).to_be_bytes();
+            let found = same_prefix(length, &first, length, &junk(length));
+            assert_eq!(found, Ok(true), "{length} bits");
+            if let Some(before) = length.checked_sub(1) {
+                let found = same_prefix(length, &first, length, &junk(before));
+                assert_eq!(found, Ok(false), "{length} bits");
+            }
+        }
+    }
+}
+
 /// Every length beside its neighbours, with octets of every number, changed
 /// at every byte.
 #[test]
 fn prefixes_by_length_and_octets() {
     let octets: Vec<u8> = (1..=20).collect();
-    let mut same = 0;
+    let mut same_ones = 0;
     for first_length in 0..=255_u8 {
         for second_length in [first_length, first_length.wrapping_add(1), 128] {
             for (n, changed) in (0..=20).flat_map(|n| (0..=20).map(move |c| (n, c))) {
@@ -98,28 +161,26 @@ fn prefixes_by_length_and_octets() {
                     *byte ^= 0x40;
                 }
                 let second = &second[..n.max(16)];
-                let expected = if first_length > 128 || second_length > 128 {
-                    Err(Refusal::PrefixLength)
-                } else {
-                    Ok(first_length == second_length && address(first) == address(second))
-                };
+                let expected = same(first_length, first, second_length, second);
                 let found = same_prefix(first_length, first, second_length, second);
+                let exchanged = same_prefix(second_length, second, first_length, first);
                 assert_eq!(
-                    found, expected,
+                    [found, exchanged],
+                    [expected; 2],
                     "{first_length} {second_length} {n} {changed}"
                 );
-                same += usize::from(found == Ok(true));
+                same_ones += usize::from(found == Ok(true));
             }
         }
     }
-    assert!(same > 1_000, "{same}");
+    assert!(same_ones > 10_000, "{same_ones}");
 }
 
 /// Octets as they lie in a packet: those that are left out are zeros.
 #[test]
 fn octets_left_out_are_zeros() {
     assert_eq!(same_prefix(64, &[1, 2, 0, 0], 64, &[1, 2]), Ok(true));
-    assert_eq!(same_prefix(0, &[], 0, &[0; 16]), Ok(true));
+    assert_eq!(same_prefix(128, &[], 128, &[0; 16]), Ok(true));
     assert_eq!(same_prefix(64, &[1, 2], 64, &[1, 2, 0, 1]), Ok(false));
     assert_eq!(exports::ospf_prefix_compare(7, &[], 7, &[]), 1);
     assert_eq!(exports::ospf_prefix_compare(7, &[], 8, &[]), 0);

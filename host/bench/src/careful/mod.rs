@@ -1,10 +1,12 @@
 //! The strip of the requirements by hand-written Rust: measured, then written, with
 //! no allocation and no unsafe code. An entry's bytes are taken off the lent
 //! strip by one test, a record's or link's off the data by one. [`blocks`] has the
-//! readings of blocks.
+//! readings of blocks, [`checksum`] the LS checksum, [`prefix`] the comparison of
+//! prefixes.
 
 pub mod blocks;
 pub mod checksum;
+pub mod prefix;
 mod v2;
 mod v3;
 mod writer;
