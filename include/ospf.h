@@ -1,14 +1,17 @@
 /*
- * The LSAs of OSPFv2 and OSPFv3 packets, and the blocks that may follow a packet, as a strip of fields: the exports of
- * libospf.a, which `tools/build ospf` writes to target/staticlib; and, inline, a reader of strips. docs/STRIP.md has
- * the format of strips and all ids.
+ * The LSAs of OSPFv2 and OSPFv3 packets, and the blocks that may follow a packet, as a strip of fields, and whole
+ * updates taken against a table of rows: the exports of libospf.a, which `tools/build ospf` writes to target/staticlib;
+ * and, inline, a reader of strips. docs/STRIP.md has the format of strips and all ids.
  *
  * What a caller must know of the exports:
- * - A slice is a pointer and a length. The pointer is not null, whatever the length. Data and strip do not overlap.
+ * - A slice is a pointer and a length. The pointer is not null, whatever the length, and that to rows is aligned as a
+ *   struct ospf_row is. Data and strip do not overlap, nor do data and rows.
  * - Nothing else is asked: what does not fit is refused by number. A refused call leaves what it was lent as it was.
- * - They keep no state, allocate nothing, and write to nothing but the strip_len bytes at strip, or two bytes of the LSA
- *   whose checksum is made, so any number of threads may call them at once, each with a strip or an LSA of its own.
- * - They take some hundred bytes of stack, whatever they are given (docs/BENCHMARKS.md, "Stack").
+ * - They keep no state, allocate nothing, and write to nothing but the strip_len bytes at strip, the rows_len rows at
+ *   rows, or two bytes of the LSA whose checksum is made, so any number of threads may call them at once, each with a
+ *   strip, rows or an LSA of its own.
+ * - They take some hundred bytes of stack, whatever they are given, and ospf_book_update some 16 KiB
+ *   (docs/BENCHMARKS.md, "Stack").
  */
 #ifndef OSPF_H
 #define OSPF_H
@@ -89,8 +92,43 @@ uint64_t ospf_lsa_checksum_check(const uint8_t *lsa, size_t lsa_len);
 uint64_t ospf_lsa_checksum_make(uint8_t *lsa, size_t lsa_len);
 
 /*
+ * A row of the book, in the machine's byte order: what tells an LSA apart from others (RFC 2328 12.1, and the version),
+ * and what tells its instances apart. Version, LS type, link state id and advertising router are the LSA's identity.
+ */
+typedef struct ospf_row {
+    uint8_t version;  /* 2 or 3 */
+    uint8_t used;     /* the mark: 0 in an unused row, which may hold anything else; an update writes 1 */
+    uint16_t ls_type; /* one byte in version 2, all 16 bits in version 3 */
+    uint32_t link_state_id;
+    uint32_t advertising_router;
+    uint32_t sequence; /* LS sequence number; its sign is the highest bit */
+    uint16_t checksum; /* LS checksum */
+    uint16_t age;      /* LS age when the row was written */
+} ospf_row;
+
+/* The library's row has 20 bytes. */
+#if defined(__cplusplus) && __cplusplus >= 201103L
+static_assert(sizeof(struct ospf_row) == 20, "a row has 20 bytes");
+#elif defined(__STDC_VERSION__) && __STDC_VERSION__ >= 201112L
+_Static_assert(sizeof(struct ospf_row) == 20, "a row has 20 bytes");
+#endif
+
+/*
+ * Takes the LSAs of a Link State Update's body, those that ospf_lsu_lsas takes, one after another against the rows_len
+ * rows at rows, which are aligned as a struct ospf_row is and do not overlap data. An LSA whose identity a used row has
+ * replaces that row if it is newer (RFC 2328 13.1), and leaves it if it is the same or older; any other LSA takes the
+ * first unused row. The answer has how many rows were replaced and how many added. offset is the place of data in its
+ * packet, as for the walks; it is only tested.
+ * Refused, in this order: OSPF_REFUSED_VERSION; _TOO_LONG; _OFFSET; _TOO_SHORT, below 4 bytes; _AGE, of an LSA or of a
+ * used row above 3,600; _SHARED_IDENTITY; _NO_FREE_ROW. Then all rows are as they were.
+ */
+uint64_t ospf_book_update(uint8_t version, const uint8_t *data, size_t data_len, uint32_t count, uint64_t offset,
+                          struct ospf_row *rows, size_t rows_len);
+
+/*
  * An export's answer: a number of 64 bits. The low 32 have what was asked, the next 8 the number of a refusal, 0 if
- * there is none, and the upper 24 the length of the block that ospf_lls or ospf_auth_trailer took, else 0.
+ * there is none, and the upper 24 the length of the block that ospf_lls or ospf_auth_trailer took, or how many rows
+ * ospf_book_update added, else 0.
  */
 
 /* The number of a refusal, from any answer; 0 if there is none. */
@@ -110,18 +148,25 @@ static inline uint32_t ospf_compared(uint64_t answer) { return (uint32_t)answer;
 /* Whether a checksum is right, from the answer of the check; the checksum, from that of the making; 0 if refused. */
 static inline uint32_t ospf_checksum(uint64_t answer) { return (uint32_t)answer; }
 
+/* How many rows an update replaced, and how many it added, from the answer of ospf_book_update; 0 if refused. */
+static inline uint32_t ospf_replaced(uint64_t answer) { return (uint32_t)answer; }
+
+static inline uint32_t ospf_added(uint64_t answer) { return (uint32_t)(answer >> 40); }
+
 enum {
-    OSPF_REFUSED_VERSION = 1,        /* the version is neither 2 nor 3 */
-    OSPF_REFUSED_TOO_LONG = 2,       /* more than 65,535 bytes of data */
-    OSPF_REFUSED_OFFSET = 3,         /* the offset is above 4,294,901,760 */
-    OSPF_REFUSED_TOO_SHORT = 4,      /* fewer than 4 bytes of an update, or than 20 of an LSA */
-    OSPF_REFUSED_ROOM = 5,           /* the strip is longer than strip_len */
-    OSPF_REFUSED_PLACE = 6,          /* the place is beyond the strip */
-    OSPF_REFUSED_KIND = 7,           /* there is no such kind of entry */
-    OSPF_REFUSED_CUT = 8,            /* the strip ends before the entry does */
-    OSPF_REFUSED_PREFIX_LENGTH = 10, /* a prefix length above 128 */
-    OSPF_REFUSED_AGE = 11,           /* an LS age above 3,600 */
-    OSPF_REFUSED_LSA_LENGTH = 13     /* fewer than 20 bytes of an LSA whose checksum is asked for, or more than 65,535 */
+    OSPF_REFUSED_VERSION = 1,          /* the version is neither 2 nor 3 */
+    OSPF_REFUSED_TOO_LONG = 2,         /* more than 65,535 bytes of data */
+    OSPF_REFUSED_OFFSET = 3,           /* the offset is above 4,294,901,760 */
+    OSPF_REFUSED_TOO_SHORT = 4,        /* fewer than 4 bytes of an update, or than 20 of an LSA */
+    OSPF_REFUSED_ROOM = 5,             /* the strip is longer than strip_len */
+    OSPF_REFUSED_PLACE = 6,            /* the place is beyond the strip */
+    OSPF_REFUSED_KIND = 7,             /* there is no such kind of entry */
+    OSPF_REFUSED_CUT = 8,              /* the strip ends before the entry does */
+    OSPF_REFUSED_PREFIX_LENGTH = 10,   /* a prefix length above 128 */
+    OSPF_REFUSED_AGE = 11,             /* an LS age above 3,600, of an LSA or of a used row */
+    OSPF_REFUSED_LSA_LENGTH = 13,      /* fewer than 20 or more than 65,535 bytes of an LSA for its checksum */
+    OSPF_REFUSED_SHARED_IDENTITY = 14, /* two used rows share an identity */
+    OSPF_REFUSED_NO_FREE_ROW = 15      /* more new identities than unused rows */
 };
 
 enum { OSPF_NEWNESS_SAME = 0, OSPF_NEWNESS_FIRST = 1, OSPF_NEWNESS_SECOND = 2 };

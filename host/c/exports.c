@@ -1,8 +1,8 @@
 /*
  * Calls each export of libospf.a from C, through include/ospf.h: each walk and each block on an example input, its
  * whole strip, the bytes past it, and the strip read by ospf_step beside the proved step; metrics that are unreachable;
- * blocks that are absent; the comparisons; the LS checksum; and the refusals. The last line is "c: N checks passed"; the
- * exit status is 0 only where all passed.
+ * blocks that are absent; the comparisons; the LS checksum; rows of the book, each field both ways; and the refusals. The
+ * last line is "c: N checks passed"; the exit status is 0 only where all passed.
  */
 #include <stdio.h>
 #include <string.h>
@@ -324,6 +324,105 @@ static void checksums(void)
     check(ospf_lsa_checksum_check(longest, 65536) == refused(OSPF_REFUSED_LSA_LENGTH, 0), "65,536 bytes checked");
 }
 
+/* An update of one LSA of version 3, with another value in each field and in each byte of a field, and the row of it. */
+static const uint8_t one_lsa[24] = {0,    0,    0,    1,    0x04, 0x03, 0xA1, 0xB2, 0x0B, 0x0C, 0x0D, 0x0E,
+                                    0x11, 0x12, 0x13, 0x14, 0x85, 0x86, 0x87, 0x88, 0x91, 0x92, 0,    20};
+static const struct ospf_row its_row = {3, 1, 0xA1B2, 0x0B0C0D0E, 0x11121314, 0x85868788, 0x9192, 0x0403};
+
+static int same_row(const struct ospf_row *a, const struct ospf_row *b)
+{
+    return a->version == b->version && a->used == b->used && a->ls_type == b->ls_type &&
+           a->link_state_id == b->link_state_id && a->advertising_router == b->advertising_router &&
+           a->sequence == b->sequence && a->checksum == b->checksum && a->age == b->age;
+}
+
+/* The update taken against one row, between rows that stay as they are; the row afterwards. */
+static uint64_t taken_against(struct ospf_row *row)
+{
+    const struct ospf_row next_to = {0xA5, 0, 0xA5A5, 0xA5A5A5A5, 0xA5A5A5A5, 0xA5A5A5A5, 0xA5A5, 0xA5A5};
+    struct ospf_row rows[3] = {next_to, *row, next_to};
+    uint64_t answer = ospf_book_update(3, one_lsa, sizeof one_lsa, 1, 0, rows + 1, 1);
+    check(same_row(rows, &next_to) && same_row(rows + 2, &next_to), "rows next to the lent one");
+    *row = rows[1];
+    return answer;
+}
+
+/* The update is taken as newer, as the same or older, or as new, which a table of one used row refuses. */
+static void check_taken(const char *what, struct ospf_row row, uint64_t expected)
+{
+    struct ospf_row after = row;
+    check(taken_against(&after) == expected, what);
+    check(same_row(&after, expected == 1 ? &its_row : &row), what);
+}
+
+/* Each field of a row written by the library and read here, and written here and read by the library. */
+static void rows(void)
+{
+    const uint64_t is_new = refused(OSPF_REFUSED_NO_FREE_ROW, 0), newer = 1, left = 0;
+    struct ospf_row row = {0};
+    check(sizeof row == 20, "a row has 20 bytes");
+    uint64_t answer = taken_against(&row);
+    check(ospf_number(answer) == 0 && ospf_replaced(answer) == 0 && ospf_added(answer) == 1, "a row added");
+    check(row.version == 3 && row.used == 1, "version and mark, written");
+    check(row.ls_type == 0xA1B2, "LS type, written");
+    check(row.link_state_id == 0x0B0C0D0E, "link state id, written");
+    check(row.advertising_router == 0x11121314, "advertising router, written");
+    check(row.sequence == 0x85868788, "sequence number, written");
+    check(row.checksum == 0x9192 && row.age == 0x0403, "checksum and age, written");
+
+    check_taken("the same row", its_row, left);
+    row = its_row, row.used = 255;
+    check_taken("another mark, read", row, left);
+    row = its_row, row.version = 2;
+    check_taken("version, read", row, is_new);
+    row = its_row, row.ls_type ^= 0x8000;
+    check_taken("LS type, read", row, is_new);
+    row = its_row, row.link_state_id++;
+    check_taken("link state id, read", row, is_new);
+    row = its_row, row.advertising_router ^= 0x01000000;
+    check_taken("advertising router, read", row, is_new);
+    row = its_row, row.sequence--;
+    check_taken("an older sequence number, read", row, newer);
+    row = its_row, row.sequence--, row.used = 255;
+    check_taken("another mark, replaced", row, newer);
+    row = its_row, row.sequence++;
+    check_taken("a newer sequence number, read", row, left);
+    row = its_row, row.checksum--;
+    check_taken("a smaller checksum, read", row, newer);
+    row = its_row, row.checksum++;
+    check_taken("a larger checksum, read", row, left);
+    row = its_row, row.age += 901;
+    check_taken("an older age, read", row, newer);
+    row = its_row, row.age += 900;
+    check_taken("an age that is the same, read", row, left);
+    row = its_row, row.age = 3601;
+    check_taken("an age of 3,601, read", row, refused(OSPF_REFUSED_AGE, 0));
+
+    /* Both counts: a row replaced, then one added where the mark is 0, whatever else lies there. */
+    uint8_t data[44];
+    memcpy(data, one_lsa, 24), memcpy(data + 24, one_lsa + 4, 20), data[31]++;
+    struct ospf_row two[2] = {its_row, its_row};
+    two[0].sequence--, two[1].used = 0;
+    answer = ospf_book_update(3, data, sizeof data, 2, 4294901760, two, 2);
+    check(answer == ((uint64_t)1 << 40 | 1) && ospf_replaced(answer) == 1 && ospf_added(answer) == 1, "both counts");
+    check(same_row(two, &its_row), "the row that was replaced");
+    check(two[1].used == 1 && two[1].link_state_id == its_row.link_state_id + 1, "the row that was added");
+
+    /* Refused, in their order; the rows are as they were. */
+    static const uint8_t longest[65536];
+    struct ospf_row before[2] = {two[0], two[0]}, after[2] = {two[0], two[0]};
+    check(ospf_book_update(4, longest, 65536, 1, 4294901761, after, 2) == refused(OSPF_REFUSED_VERSION, 0), "book, refusal 1");
+    check(ospf_book_update(2, longest, 65536, 1, 4294901761, after, 2) == refused(OSPF_REFUSED_TOO_LONG, 0), "book, refusal 2");
+    check(ospf_book_update(2, longest, 3, 1, 4294901761, after, 2) == refused(OSPF_REFUSED_OFFSET, 0), "book, refusal 3");
+    check(ospf_book_update(2, longest, 3, 1, 0, after, 2) == refused(OSPF_REFUSED_TOO_SHORT, 0), "book, refusal 4");
+    check(ospf_book_update(3, data, 44, 2, 0, after, 2) == refused(OSPF_REFUSED_SHARED_IDENTITY, 0), "book, refusal 14");
+    check(ospf_book_update(3, data, 44, 2, 0, after, 1) == refused(OSPF_REFUSED_NO_FREE_ROW, 0), "book, refusal 15");
+    data[4] = 0xFF;
+    check(ospf_book_update(3, data, 44, 2, 0, after, 2) == refused(OSPF_REFUSED_AGE, 0), "book, refusal 11");
+    check(same_row(after, before) && same_row(after + 1, before + 1), "a refused update writes nothing");
+    check(ospf_book_update(2, longest, 4, 1, 0, after, 0) == 0, "no LSA and no row");
+}
+
 /* What is no walk's strip: every byte as a kind, and every entry cut at every byte. */
 static void steps(void)
 {
@@ -373,6 +472,7 @@ int main(void)
     newness();
     prefixes();
     checksums();
+    rows();
     steps();
     refusals();
     printf("c: %d checks passed\n", passed);

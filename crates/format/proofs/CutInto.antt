@@ -92,7 +92,7 @@ module _ (r : Rule) (b : List ℕ) (standsAt : ℕ → ℕ → Type 0) (says : (
   joined no_more = done
   joined (one_more e f t) = next e (joined t)
 
-  each_stands : {p : ℕ} {ss : List Span} → Stands r b p ss → (s : Span) → Memᴰ s ss → standsAt s.at s.len
+  pub each_stands : {p : ℕ} {ss : List Span} → Stands r b p ss → (s : Span) → Memᴰ s ss → standsAt s.at s.len
   each_stands no_more s m = absurd (Memᴰ.not-nil m)
   each_stands (one_more {s = x} e f t) s m = ⊎_elim {C = standsAt s.at s.len}
       (λ q. subst (λ (y : Span). standsAt y.at y.len) (sym q) (rw e ((says _ _).0 f)))

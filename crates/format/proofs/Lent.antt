@@ -26,10 +26,10 @@ pub from_place : (b : List ℕ) (p n : ℕ) → Same (drop p b) b p n
 from_place b p n k h = get_or-drop p b k 0
 
 module _ (l b : List ℕ) (o p n : ℕ) (same : Same l b p n) where
-  two : (k : ℕ) → k + 2 ≤ n → be16_at l k ≡ be16_at b (p + k)
+  pub two : (k : ℕ) → k + 2 ≤ n → be16_at l k ≡ be16_at b (p + k)
   two k h = rw (same k (omega arith), same (k + 1) (omega arith), add_assoc p k 1)
 
-  four : (k : ℕ) → k + 4 ≤ n → be32_at l k ≡ be32_at b (p + k)
+  pub four : (k : ℕ) → k + 4 ≤ n → be32_at l k ≡ be32_at b (p + k)
   four k h = rw (two k (omega arith), two (k + 2) (omega arith), add_assoc p k 2)
 
   pub lent_u8 : (i k : ℕ) → k + 1 ≤ n → u8_at i l (o + p) k ≡ u8_at i b o (p + k)

@@ -50,3 +50,14 @@ pub mod Part
 pub mod Program
 pub mod Input
 pub mod Pieces
+pub mod Book
+pub mod Counted
+pub mod Settled
+pub mod Identities
+pub mod LsaRows
+pub mod BookRefusals
+pub mod Takes
+pub mod BookHost
+pub mod TwoUpdates
+pub mod OneAnswer
+pub mod WorkedUpdates

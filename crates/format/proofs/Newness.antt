@@ -138,7 +138,7 @@ header_number x y = go (ltb 3600 x.age) (ltb 3600 y.age) _
 
 -- What both versions' headers have at the same place: the age is the first two bytes, the sequence number the four at 12.
 module _ (v : ℕ) (b : List ℕ) where
-  in_both : (f : Header → ℕ) {n : ℕ} → f (header2 b) ≡ n → f (header3 b) ≡ n → f (header_at v b) ≡ n
+  pub in_both : (f : Header → ℕ) {n : ℕ} → f (header2 b) ≡ n → f (header3 b) ≡ n → f (header_at v b) ≡ n
   in_both f e g = go (eqb v 2) e g
     where
       go : {n : ℕ} (s : Bool) → f (header2 b) ≡ n → f (header3 b) ≡ n → f (cond s (header2 b) (header3 b)) ≡ n

@@ -20,12 +20,12 @@ use Rattle.format.proofs.Decided.{Decided, less, version}
 use Rattle.format.proofs.Decided.Decided.{holds, fails}
 
 -- whether the version is neither 2 nor 3, by the test that it is one of them
-no_version : {v : ℕ} {t : Bool} → Decided ((v ≡ 2) ⊎ (v ≡ 3)) t → Decided (NoVersion v → ⊥) t
+pub no_version : {v : ℕ} {t : Bool} → Decided ((v ≡ 2) ⊎ (v ≡ 3)) t → Decided (NoVersion v → ⊥) t
 no_version (holds k) = holds (λ n. ⊎_elim n.0 n.1 k)
 no_version (fails f) = fails (λ n. n (λ e. f (inl e), λ e. f (inr e)))
 
 -- The table, from the tests in their order.
-table : (v : ℕ) (d : List ℕ) (o least room needed : ℕ) {a b c e f : Bool}
+pub table : (v : ℕ) (d : List ℕ) (o least room needed : ℕ) {a b c e f : Bool}
     → Decided (NoVersion v → ⊥) a → Decided (TooMuch d) b → Decided (TooFar o) c → Decided (TooLittle d least) e → Decided (room < needed) f
     → Numbers v d o least room needed (cond a (cond b 2 (cond c 3 (cond e 4 (cond f 5 0)))) 1)
 table v d o least room needed (fails nn) m f l r = record {
@@ -100,7 +100,7 @@ number_is v d o least es r t room =
     go true false false false true q = rw q
     go true false false false false q = rw q
 
-most_refusal : (v : ℕ) (d : List ℕ) (o least : ℕ) → refusal v d o least ≤ 4
+pub most_refusal : (v : ℕ) (d : List ℕ) (o least : ℕ) → refusal v d o least ≤ 4
 most_refusal v d o least = go (is_known v) (ltb max_data (length d)) (ltb max_offset o) (ltb (length d) least)
   where
     go : (a b c e : Bool) → cond a (cond b 2 (cond c 3 (cond e 4 0))) 1 ≤ 4

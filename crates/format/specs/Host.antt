@@ -1,13 +1,19 @@
 -- What the host's one number says: of a walk, with the lent buffer before and after the call; of newness, of the prefix
--- comparison, and of a step; of the LS checksum's check and making; of a block after a packet. The requirements as whoever calls an export sees them.
-use Rattle.std.specs.Prelude.{ℕ, ◌+◌, ◌*◌, ◌/◌, ◌%◌, ◌≤◌, ◌<◌, ◌≡◌, ◌↔◌, ◌⊎◌, List, ◌++◌, length, get_or, take, drop, replicate}
+-- comparison, and of a step; of the LS checksum's check and making; of a block after a packet; of an update that is taken against
+-- a table, with the table before and after. The requirements as whoever calls an export sees them.
+use Rattle.std.specs.Prelude.{ℕ, ◌+◌, ◌*◌, ◌/◌, ◌%◌, ◌≤◌, ◌<◌, ◌≡◌, ◌↔◌, ◌⊎◌, length, get_or, take, drop, replicate}
+use mathlib.Core.List.{List, ◌++◌, Memᴰ}
 use Rattle.format.specs.Header.{header_at}
 use Rattle.format.specs.Newer.{Newer}
 use Rattle.format.specs.Fletcher.{NoLsa, Lsa, Good, Made}
 use Rattle.format.specs.Strip.{Entry}
 use Rattle.format.specs.Laid.{Laid, anything}
 use Rattle.format.specs.Part.{GivesBack}
-use Rattle.format.specs.Refusals.{Numbers, TooMuch, TooFar, Agree, NewnessRefusals, Kind, entry_end}
+use Rattle.format.specs.Cut.{Span}
+use Rattle.format.specs.CutInto.{CutInto, RecordAt}
+use Rattle.format.specs.Book.{Row}
+use Rattle.format.specs.Takes.{LsaRows, row_at, Used, Same, Twice, TakesAll, NewIdentities}
+use Rattle.format.specs.Refusals.{Numbers, BookNumbers, TooMuch, TooFar, TooLittle, Agree, NewnessRefusals, Kind, entry_end}
 use Rattle.format.specs.Shown.{HeadersShow, UpdateShows, OneShows}
 
 -- The low 32 bits, and the 8 above them.
@@ -17,7 +23,7 @@ result_in r = r % 4294967296
 abbrev pub number_in : ℕ → ℕ
 number_in r = r / 4294967296 % 256
 
--- The 24 above these.
+-- The 24 above these: the length of a block, or the rows added to a table.
 abbrev pub block_in : ℕ → ℕ
 block_in r = r / 1099511627776
 
@@ -111,3 +117,32 @@ pub record BlockHost (d : List ℕ) (o : ℕ) (Stands : ℕ → Type 0) (needed 
   pub past : 0 < block_in r → drop (result_in r) after ≡ drop (result_in r) before
   pub left : block_in r ≡ 0 → after ≡ before
   pub as_long : length after ≡ length before
+
+-- The answer r to an update of LSAs with the rows rs that is taken against a lent table of rows, with the table before and after
+-- the call. The result is the rows replaced, and above the number are those added. Refused, nothing is changed and both are 0;
+-- accepted, the LSAs were taken one after another, those added are the new identities, however listed, and no two used rows share
+-- an identity. Whatever is answered: a used row stays used, and of its identity; each row is as it was or one of the LSAs'; a
+-- used row whose identity no LSA has is as it was.
+pub record BookAnswer (v : ℕ) (d : List ℕ) (o : ℕ) (rs before after : List Row) (r : ℕ) : Type 0 where
+  pub numbers : BookNumbers v d o rs before (number_in r)
+  pub refused : (number_in r ≡ 0 → ⊥) → (after ≡ before) × (result_in r ≡ 0) × (block_in r ≡ 0)
+  pub takes : number_in r ≡ 0 → TakesAll rs before after (result_in r) (block_in r)
+  pub additions : number_in r ≡ 0 → (ns : List Row) → NewIdentities before rs ns → block_in r ≡ length ns
+  pub unique : number_in r ≡ 0 → Twice after → ⊥
+  pub at_most : result_in r + block_in r ≤ length rs
+  pub stays : (i : ℕ) → Used (row_at before i) → Used (row_at after i) × Same (row_at before i) (row_at after i)
+  pub each : (i : ℕ) → (row_at after i ≡ row_at before i) ⊎ Memᴰ (row_at after i) rs
+  pub others : (i : ℕ) → Used (row_at before i) → ((x : Row) → Memᴰ x rs → Same x (row_at before i) → ⊥) → row_at after i ≡ row_at before i
+  pub as_long : length after ≡ length before
+
+-- The same where the LSAs are those of the cut, with their rows by its bytes. There is a list of the new identities.
+pub record BookHost (v : ℕ) (d : List ℕ) (count o : ℕ) (before after : List Row) (r : ℕ) : Type 0 where
+  pub spans : List Span
+  pub end : ℕ
+  pub tail : ℕ
+  pub lsas : List Row
+  pub identities : List Row
+  pub is_cut : (TooLittle d 4 → ⊥) → CutInto (RecordAt d) (length d) 4 count spans end tail
+  pub rows : LsaRows v d spans lsas
+  pub new : NewIdentities before lsas identities
+  pub answer : BookAnswer v d o lsas before after r

@@ -13,6 +13,7 @@ pub mod V2
 pub mod V3
 pub mod Walks
 pub mod Trailer
+pub mod Book
 pub mod Packed
 pub mod Part
 pub mod Print
@@ -26,6 +27,7 @@ pub mod Unreachable
 pub mod Shown
 pub mod Refusals
 pub mod Newer
+pub mod Takes
 pub mod Fletcher
 pub mod Blocks
 pub mod Host

@@ -1,5 +1,5 @@
 -- What an export answers, as one number of 64 bits: the result in the low 32, the number of a refusal in the next 8, and in the
--- last 24 the length of a block.
+-- last 24 the length of a block, or the number of rows added.
 use Rattle.std.specs.Prelude.{ℕ, ◌+◌, ◌-◌, ◌*◌}
 use Rattle.format.specs.Strip.{Step}
 use Rattle.format.specs.Strip.Step.{entry, end, refused as not_read}
@@ -13,6 +13,7 @@ use Rattle.format.specs.Checksum.Making.{made, refused as not_made}
 use Rattle.format.specs.Walks.{Answer}
 use Rattle.format.specs.Trailer.{BlockAnswer}
 use Rattle.format.specs.Trailer.BlockAnswer.{absent, found, refused as no_block}
+use Rattle.format.specs.Book.{Taken}
 
 abbrev pub word : (number result : ℕ) → ℕ
 word n x = n * 4294967296 + x
@@ -55,3 +56,7 @@ abbrev pub packed_block : BlockAnswer → ℕ
 packed_block absent = word 0 0
 packed_block (found strip block) = block * 1099511627776 + word 0 strip
 packed_block (no_block n needed) = word n needed
+
+-- An update that is taken against a table: the rows replaced, and those added.
+abbrev pub packed_update : Taken → ℕ
+packed_update t = t.book.added * 1099511627776 + word t.number t.book.replaced

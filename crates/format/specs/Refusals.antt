@@ -1,6 +1,7 @@
 -- Places where a call is turned down: the table of the requirements, in its own numbers. Each number is answered exactly
 -- when its condition holds and none before it does, and in no other case.
-use Rattle.std.specs.Prelude.{ℕ, ◌+◌, ◌-◌, ◌/◌, ◌%◌, ◌^◌, ◌≤◌, ◌<◌, ◌≡◌, ◌↔◌, ◌⊎◌, List, [], ◌∷◌, length, get_or, take, drop}
+use Rattle.std.specs.Prelude.{ℕ, ◌+◌, ◌-◌, ◌/◌, ◌%◌, ◌^◌, ◌≤◌, ◌<◌, ◌≡◌, ◌↔◌, ◌⊎◌, length, get_or, take, drop}
+use mathlib.Core.List.{List, [], ◌∷◌, Memᴰ}
 use Rattle.format.specs.Strip.{Entry, entry_at, step_at}
 use Rattle.format.specs.Strip.Step.{entry, end, refused}
 use Rattle.format.specs.Prefix.{comparison}
@@ -11,6 +12,8 @@ use Rattle.format.specs.Header.{Reading, Newness}
 use Rattle.format.specs.Header.Reading.{header, refused as not_read}
 use Rattle.format.specs.Header.Newness.{first, second, same as alike, refused as too_old}
 use Rattle.format.specs.Walks.{Answer, answer_of}
+use Rattle.format.specs.Book.{Row}
+use Rattle.format.specs.Takes.{Used, Twice, Outnumbered}
 use Rattle.format.specs.Print.{named_walk}
 
 -- Each walk. 1: the version is neither 2 nor 3; 2: more than 65,535 bytes of data; 3: an offset above 4,294,901,760; 4: fewer
@@ -44,6 +47,25 @@ pub record Refusals (v : ℕ) (d : List ℕ) (o least room needed : ℕ) (a : An
   pub length_of : ((a.number ≡ 0) ⊎ (a.number ≡ 5)) → a.size ≡ needed
   pub no_length : (a.number ≡ 0 → ⊥) → (a.number ≡ 5 → ⊥) → a.size ≡ 0
   pub no_records : (a.number ≡ 0 → ⊥) → (a.records ≡ 0) × (a.tail ≡ 0)
+
+-- An update that is taken against a table t, by the rows rs of its LSAs. 1 to 4 as above. 11: an LSA's age or a used row's is above
+-- 3,600; 14: two used rows share an identity; 15: the LSAs have more distinct new identities than the table has unused rows.
+abbrev pub Walked : ℕ → List ℕ → ℕ → Type 0
+Walked v d o = (NoVersion v → ⊥) × (TooMuch d → ⊥) × (TooFar o → ⊥) × (TooLittle d 4 → ⊥)
+
+abbrev pub TooOld : (rs t : List Row) → Type 0
+TooOld rs t = ((r : Row) × Memᴰ r rs × (3600 < r.age)) ⊎ ((r : Row) × Memᴰ r t × Used r × (3600 < r.age))
+
+pub record BookNumbers (v : ℕ) (d : List ℕ) (o : ℕ) (rs t : List Row) (number : ℕ) : Type 0 where
+  pub one : (number ≡ 1) ↔ NoVersion v
+  pub two : (number ≡ 2) ↔ ((NoVersion v → ⊥) × TooMuch d)
+  pub three : (number ≡ 3) ↔ ((NoVersion v → ⊥) × (TooMuch d → ⊥) × TooFar o)
+  pub four : (number ≡ 4) ↔ ((NoVersion v → ⊥) × (TooMuch d → ⊥) × (TooFar o → ⊥) × TooLittle d 4)
+  pub eleven : (number ≡ 11) ↔ (Walked v d o × TooOld rs t)
+  pub fourteen : (number ≡ 14) ↔ (Walked v d o × (TooOld rs t → ⊥) × Twice t)
+  pub fifteen : (number ≡ 15) ↔ (Walked v d o × (TooOld rs t → ⊥) × (Twice t → ⊥) × Outnumbered rs t)
+  pub zero : (number ≡ 0) ↔ (Walked v d o × (TooOld rs t → ⊥) × (Twice t → ⊥) × (Outnumbered rs t → ⊥))
+  pub no_other : (number ≤ 4) ⊎ (number ≡ 11) ⊎ (number ≡ 14) ⊎ (number ≡ 15)
 
 -- The kinds are 1 to 10, and their bodies have these bytes.
 abbrev pub body_bytes : List ℕ

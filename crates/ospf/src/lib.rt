@@ -1,20 +1,23 @@
 // The library for the host, in C's calling convention: numbers as themselves, a slice as a pointer and a length. The answer is
 // one number: the result in the low 32 bits (of a walk the strip's length), the refusal's number in the next 8, and in the rest
-// the length of a block after a packet, of all others zero.
+// the length of a block after a packet, or how many rows an update added, of all others zero.
 #![tactic(auto)]
 
-ghost use Rattle.std.specs.Prelude.{◌≡◌, ◌<◌, length, IfOk, MatchResult};
+ghost use Rattle.std.specs.Prelude.{◌≡◌, ◌<◌, length, map, IfOk, MatchResult};
 ghost use Rattle.format.specs.Walks.{headers_of, update_of, lsa_of, answer_of, strip_of};
 ghost use Rattle.format.specs.Header.{newness_at};
+ghost use Rattle.format.specs.Book.{book_update};
 ghost use Rattle.format.specs.Prefix.{address, comparison};
 ghost use Rattle.format.specs.Strip.{step_at};
 ghost use Rattle.format.specs.Checksum.{check, making, made_lsa};
 ghost use Rattle.format.specs.Trailer.{lls_of, auth_trailer_of, block_answer, block_strip};
-ghost use Rattle.format.specs.Packed.{word, packed, packed_newness, packed_comparison, packed_step, packed_check, packed_making, packed_block};
+ghost use Rattle.format.specs.Packed.{word, packed, packed_newness, packed_comparison, packed_step, packed_check, packed_making, packed_block, packed_update};
+ghost use Rattle.book.specs.Rows.{meaning};
 ghost use Rattle.trailer.specs.Answers.{block_meaning, Small};
 ghost use Rattle.walk_answer.specs.Answers.{answer_meaning};
 ghost use Rattle.refusal.specs.Numbers.{number_of};
 
+use book::{Row, take_update};
 use checksum::{check_checksum, make_checksum};
 use header::{Newness, newer_lsa};
 use refusal::Refusal;
@@ -134,6 +137,24 @@ pub extern "C" fn ospf_auth_trailer(data: &[u8], offset: u64, strip: &mut [u8]) 
     ensures strip_after { strip.new ≡ block_strip (auth_trailer_of «data».now offset) strip.old }
 {
     block_word(push_auth_trailer(data, offset, strip))
+}
+
+// An update's LSAs taken against a table of rows: the replacements, and above the number the additions.
+#[unsafe(no_mangle)]
+pub extern "C" fn ospf_book_update(
+    version: u8,
+    data: &[u8],
+    count: u32,
+    offset: u64,
+    rows: &mut [Row],
+) -> u64
+    ensures value { result ≡ packed_update (book_update version «data».now count offset (map meaning rows.old)) }
+    ensures rows_after { map meaning rows.new ≡ (book_update version «data».now count offset (map meaning rows.old)).book.rows }
+{
+    match take_update(version, data, count, offset, rows) {
+        Ok(taken) => taken.added as u64 * 1099511627776 + pack(0, taken.replaced),
+        Err(refusal) => pack(refusal.number(), 0),
+    }
 }
 
 fn walk_word(answer: Result<Answer, Refusal>) -> u64

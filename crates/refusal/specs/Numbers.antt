@@ -1,7 +1,7 @@
 -- The number that the requirements give each reason, and the length that is needed where there is no room.
 use Rattle.std.specs.Prelude.{ℕ}
 use Rattle.refusal.specs.declared.Refusal.{Refusal}
-use Rattle.refusal.specs.declared.Refusal.TheVariants.{NoVersion, TooMuch, TooFar, TooLittle, NoRoom, PlaceBeyond, NoKind, EntryCut, NotInPacket, PrefixTooLong, AgeTooLarge, NoWalk, NoLsa}
+use Rattle.refusal.specs.declared.Refusal.TheVariants.{NoVersion, TooMuch, TooFar, TooLittle, NoRoom, PlaceBeyond, NoKind, EntryCut, NotInPacket, PrefixTooLong, AgeTooLarge, NoWalk, NoLsa, SharedIdentity, NoFreeRow}
 
 abbrev pub number_of : Refusal → ℕ
 number_of NoVersion = 1
@@ -17,6 +17,8 @@ number_of PrefixTooLong = 10
 number_of AgeTooLarge = 11
 number_of NoWalk = 12
 number_of NoLsa = 13
+number_of SharedIdentity = 14
+number_of NoFreeRow = 15
 
 abbrev pub needed_of : Refusal → ℕ
 needed_of NoVersion = 0
@@ -32,3 +34,5 @@ needed_of PrefixTooLong = 0
 needed_of AgeTooLarge = 0
 needed_of NoWalk = 0
 needed_of NoLsa = 0
+needed_of SharedIdentity = 0
+needed_of NoFreeRow = 0

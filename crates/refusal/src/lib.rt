@@ -33,6 +33,10 @@ pub enum Refusal {
     NoWalk,
     // These are too few bytes for an LSA, or too many.
     NoLsa,
+    // Two used rows of the book share an identity.
+    SharedIdentity,
+    // The LSAs have more new identities than the book has unused rows.
+    NoFreeRow,
 }
 
 impl Refusal {
@@ -53,6 +57,8 @@ impl Refusal {
             Refusal::AgeTooLarge => 11,
             Refusal::NoWalk => 12,
             Refusal::NoLsa => 13,
+            Refusal::SharedIdentity => 14,
+            Refusal::NoFreeRow => 15,
         }
     }
 

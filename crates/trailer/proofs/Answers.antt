@@ -19,7 +19,7 @@ answered (refused n l) = Err (refusal_by n l)
 abbrev pub Told : BlockAnswer → Type 0
 Told absent = 0 ≤ 0
 Told (found s n) = 0 ≤ 0
-Told (refused n l) = (0 < n) × (n ≤ 13) × ((n ≡ 5) ⊎ (l ≡ 0))
+Told (refused n l) = (0 < n) × (n ≤ 15) × ((n ≡ 5) ⊎ (l ≡ 0))
 
 pub meant : (a : BlockAnswer) → Told a → block_meaning (answered a) ≡ a
 meant absent t = refl

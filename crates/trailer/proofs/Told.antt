@@ -23,7 +23,7 @@ limit_most d o = go (ltb 65535 (length d)) (ltb 4294901760 o)
     go false true = omega arith
     go false false = omega arith
 
-pub told_refused : (n room : ℕ) → 0 < n → n ≤ 13 → Told (block_answer (refused n) room)
+pub told_refused : (n room : ℕ) → 0 < n → n ≤ 15 → Told (block_answer (refused n) room)
 unfolding block_answer
 told_refused n room g h = (g, h, inr refl)
 

@@ -19,7 +19,7 @@ answered a = cond (eqb a.number 0) (Ok (record { length = a.size; records = a.re
 
 -- What can be answered: a strip, or a refusal of the requirements' table, of which the fifth alone gives a length.
 abbrev pub Told : walks.Answer → Type 0
-Told a = (a.number ≡ 0) ⊎ ((0 < a.number) × (a.number ≤ 13) × ((a.number ≡ 5) ⊎ (a.size ≡ 0)) × (a.records ≡ 0) × (a.tail ≡ 0))
+Told a = (a.number ≡ 0) ⊎ ((0 < a.number) × (a.number ≤ 15) × ((a.number ≡ 5) ⊎ (a.size ≡ 0)) × (a.records ≡ 0) × (a.tail ≡ 0))
 
 pub answer-meant : (a : walks.Answer) → Told a → answer_meaning (answered a) ≡ a
 answer-meant a (inl z) = rw (eq-eqb a.number 0 z) (rw (← z) refl)

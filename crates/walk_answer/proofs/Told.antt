@@ -37,7 +37,7 @@ told_by_table a t = go (eqb a.number 0) refl
 pub told_unless : (v : ℕ) (d : List ℕ) (o least : ℕ) (es : List Entry) (r t room : ℕ) → Told (answer_of (unless (refusal v d o least) (accepted es r t)) room)
 told_unless v d o least es r t room = told_by_table _ (refusals v d o least es r t room)
 
-pub told_refused : (n room : ℕ) → 0 < n → n ≤ 13 → Told (answer_of (refused n) room)
+pub told_refused : (n room : ℕ) → 0 < n → n ≤ 15 → Told (answer_of (refused n) room)
 unfolding answer_of
 told_refused n room g h = inr (g, h, inr refl, refl, refl)
 

@@ -1,4 +1,5 @@
-// The walks by their numbers, a walk's answer, and what every walk has: its refusals, and the id of unparsed bytes.
+// The walks by their numbers, a walk's answer, and what walks have in common: their refusals, where an update's first LSA stands, and
+// the id of unparsed bytes.
 #![tactic(auto)]
 
 ghost use Rattle.std.specs.Prelude.{◌≡◌, ◌≤◌, ◌<◌, length, OnOk, IfErr};
@@ -48,6 +49,9 @@ pub struct Answer {
 pub const MAX_DATA: usize = 65535;
 
 pub const MAX_OFFSET: u64 = 4294901760;
+
+// The first LSA of an update follows the number of LSAs.
+pub const FIRST_LSA: usize = 4;
 
 // The first refusal, if there is one, of a call that needs this many bytes at least.
 pub fn check_call(version: u8, data: &[u8], offset: u64, least: usize) -> Result<(), Refusal>

@@ -15,12 +15,9 @@ use refusal::Refusal;
 use strip_ids::LSA;
 use strip_put::{Part, Writer};
 use util::declared_length;
-use walk_answer::{Answer, check_call};
+use walk_answer::{Answer, FIRST_LSA, check_call};
 use walk_list::{Object, walk_list};
 use walk_lsa::{measure_lsa, push_lsa_fields};
-
-// The first LSA follows the number of LSAs.
-const FIRST: usize = 4;
 
 pub fn push_lsu_lsas(
     version: u8,
@@ -31,12 +28,12 @@ pub fn push_lsu_lsas(
 ) -> Result<Answer, Refusal>
     ensures { Promised (update_of version «data».now count offset) strip.old result strip.new }
 {
-    check_call(version, data, offset, FIRST)?;
+    check_call(version, data, offset, FIRST_LSA)?;
     let data = Part::new(data, offset as u32);
     if version == 2 {
-        walk_list::<LsaObject<2>>(2, data, FIRST, count, strip)
+        walk_list::<LsaObject<2>>(2, data, FIRST_LSA, count, strip)
     } else {
-        walk_list::<LsaObject<3>>(3, data, FIRST, count, strip)
+        walk_list::<LsaObject<3>>(3, data, FIRST_LSA, count, strip)
     }
 }
 

@@ -1,8 +1,9 @@
 //! What the benchmark runs over: one kind of message after another, the
-//! published captures, and blocks of each kind.
+//! published captures, blocks of each kind, prefixes, and books with updates.
 
 use inputs::{Class, Input, Rng, lsa, update, with_length_field};
 use oracle::Walk;
+use ospf_strip::Row;
 
 /// Where the data stands in its packet: after an Ethernet, an IPv4 and an
 /// OSPF header.
@@ -296,6 +297,98 @@ pub fn prefixes(row: usize) -> Vec<Prefixes> {
         (first, octets(first, address), second, octets(second, other))
     };
     (0..64).map(pair).collect()
+}
+
+/// Rows of version 2, and updates of which each is taken against them.
+pub struct Book {
+    pub rows: Vec<Row>,
+    pub updates: Vec<Vec<u8>>,
+}
+
+/// How many rows a book has, and how many LSAs each of its updates.
+pub const BOOKS: [(usize, usize); 6] = [
+    (100, 10),
+    (1_000, 10),
+    (10_000, 10),
+    (100, MOST_LSAS),
+    (1_000, MOST_LSAS),
+    (10_000, MOST_LSAS),
+];
+
+/// As many as 65,535 bytes hold, without bodies.
+const MOST_LSAS: usize = 3_276;
+
+/// The book of a row. One row in twenty is unused, but for the book whose 100
+/// rows are named by a whole update. Of the LSAs half are newer than their row
+/// and most others the same; one in ten is older where there are ten, and one in
+/// ten new there, one in a hundred where there are most.
+pub fn book(row: usize) -> Book {
+    let (number, lsas) = BOOKS[row];
+    let mut rng = Rng::new(row as u64);
+    let all_named = (number, lsas) == (100, MOST_LSAS);
+    let used = if all_named { number } else { number / 20 * 19 };
+    let known: Vec<Row> = (0..number).map(|n| external(&mut rng, n)).collect();
+    let mut rows = known[..used].to_vec();
+    rows.resize(number, Row::default());
+    let updates = if lsas == MOST_LSAS { 1 } else { 16 };
+    let mut update_of = |_| {
+        let records: Vec<Vec<u8>> = (0..lsas)
+            .map(|n| {
+                let row = known[rng.below(used)];
+                let sequence = row.sequence;
+                match (n % 10, n % 100) {
+                    (9, _) if lsas == 10 => header(&known[used + rng.below(number - used)]),
+                    (_, 99) if !all_named => header(&known[used + n / 100]),
+                    (8, _) if lsas == 10 => instance(row, sequence - 1),
+                    (i, _) if i % 2 == 0 => instance(row, sequence + 1),
+                    _ => header(&row),
+                }
+            })
+            .collect();
+        update(lsas as u32, &records)
+    };
+    let updates = (0..updates).map(&mut update_of).collect();
+    Book { rows, updates }
+}
+
+/// An AS-external-LSA of one of two routers, which both have each network.
+fn external(rng: &mut Rng, number: usize) -> Row {
+    Row {
+        version: 2,
+        used: 1,
+        ls_type: 5,
+        link_state_id: 0x0A00_0000 + number as u32 / 2 * 256,
+        advertising_router: 0xC0A8_0001 + number as u32 % 2,
+        sequence: 0x8000_0002 + rng.below(50) as u32,
+        checksum: rng.bits() as u16,
+        age: rng.below(1_800) as u16,
+    }
+}
+
+/// Another instance of a row's LSA.
+fn instance(row: Row, sequence: u32) -> Vec<u8> {
+    let checksum = row.checksum ^ sequence as u16;
+    header(&Row {
+        sequence,
+        checksum,
+        age: 1,
+        ..row
+    })
+}
+
+/// The header of a row's LSA, which declares no body.
+fn header(row: &Row) -> Vec<u8> {
+    let [options, ls_type] = [2, row.ls_type as u8];
+    [
+        &row.age.to_be_bytes()[..],
+        &[options, ls_type],
+        &row.link_state_id.to_be_bytes(),
+        &row.advertising_router.to_be_bytes(),
+        &row.sequence.to_be_bytes(),
+        &row.checksum.to_be_bytes(),
+        &20_u16.to_be_bytes(),
+    ]
+    .concat()
 }
 
 /// An input that costs a walk much, and why.

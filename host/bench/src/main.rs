@@ -1,12 +1,14 @@
 //! Runs the port, careful Rust and the reference over one corpus and prints
 //! what each takes, what reading every field adds, and what the LS checksum,
-//! the blocks and the prefix comparison take: `bench [ROUNDS]`; reading on a
-//! corpus of another seed: `bench reading ROUNDS SEED`; one of the three alone:
-//! `bench checksums [ROUNDS]`, `bench blocks [ROUNDS]`, `bench prefixes
-//! [ROUNDS]`. The other words are what it calls itself with, under valgrind:
-//! `count`, `checksum`, `block`, `prefix` and `stack`.
+//! the blocks, the prefix comparison and the book take: `bench [ROUNDS]`;
+//! reading on a corpus of another seed: `bench reading ROUNDS SEED`; one of the
+//! four alone: `bench checksums [ROUNDS]`, `bench blocks [ROUNDS]`, `bench
+//! prefixes [ROUNDS]`, `bench books [ROUNDS]`. The other words are what it calls
+//! itself with, under valgrind: `count`, `checksum`, `block`, `prefix`, `book`
+//! and `stack`.
 
 mod blocks;
+mod books;
 mod checksums;
 mod count;
 mod growth;
@@ -73,6 +75,7 @@ fn main() -> ExitCode {
         ["checksum", rest @ ..] => return checksums::child(rest),
         ["block", rest @ ..] => return blocks::child(rest),
         ["prefix", rest @ ..] => return prefixes::child(rest),
+        ["book", rest @ ..] => return books::child(rest),
         ["stack"] => stack::child(),
         ["reading", rounds, seed] => match (rounds.parse(), seed.parse()) {
             (Ok(rounds @ 1..), Ok(seed)) => reading::print_seeded(rounds, seed),
@@ -81,6 +84,7 @@ fn main() -> ExitCode {
         ["checksums", rest @ ..] => return printed(checksums::print, rest),
         ["blocks", rest @ ..] => return printed(blocks::print, rest),
         ["prefixes", rest @ ..] => return printed(prefixes::print, rest),
+        ["books", rest @ ..] => return printed(books::print, rest),
         rest => return printed(all, rest),
     }
     ExitCode::SUCCESS
@@ -102,7 +106,7 @@ fn printed(print: fn(usize), words: &[&str]) -> ExitCode {
 
 fn usage() -> ExitCode {
     eprintln!(
-        "usage: bench [ROUNDS], bench reading ROUNDS SEED, or bench checksums, blocks or prefixes [ROUNDS]"
+        "usage: bench [ROUNDS], bench reading ROUNDS SEED, or bench checksums, blocks, prefixes or books [ROUNDS]"
     );
     ExitCode::from(2)
 }
@@ -124,6 +128,8 @@ fn all(rounds: usize) {
     blocks::print(rounds);
     println!();
     prefixes::print(rounds);
+    println!();
+    books::print(rounds);
     println!();
     stack::print();
 }

@@ -7,11 +7,51 @@ use std::process::Command;
 use std::thread;
 
 use bench::Way;
-use bench::corpus::worst;
+use bench::corpus::{BOOKS, Book, book, worst};
+use inputs::Input;
+use ospf_strip::exports;
 
 use crate::Load;
 
-/// The stack of one call on each of the worst inputs.
+/// A call that is measured.
+struct Call {
+    name: &'static str,
+    bytes: usize,
+    run: Run,
+}
+
+type Run = Box<dyn FnMut() + Send>;
+
+/// Each of the worst inputs, and the most LSAs taken against many rows.
+fn calls() -> Vec<Call> {
+    let walks = worst().into_iter().map(|worst| Call {
+        name: worst.name,
+        bytes: worst.input.data.len(),
+        run: of_walk(vec![worst.input]),
+    });
+    let Book {
+        mut rows,
+        mut updates,
+    } = book(BOOKS.len() - 1);
+    let data = updates.remove(0);
+    let update = Call {
+        name: "update of most records against 10,000 rows",
+        bytes: data.len(),
+        run: Box::new(move || {
+            black_box(exports::ospf_book_update(2, &data, u32::MAX, 0, &mut rows));
+        }),
+    };
+    walks.chain([update]).collect()
+}
+
+fn of_walk(inputs: Vec<Input>) -> Run {
+    let mut load = Load::new(inputs);
+    Box::new(move || {
+        black_box(load.run(Way::Port));
+    })
+}
+
+/// The stack of each of these calls.
 pub fn print() {
     println!("the port on the worst inputs: bytes of data, bytes of stack");
     let Some(used) = used() else {
@@ -20,12 +60,11 @@ pub fn print() {
     };
     // The first two threads make no call, and the first one also binds what
     // every thread uses.
-    let [_, none, calls @ ..] = used.as_slice() else {
+    let [_, none, measured @ ..] = used.as_slice() else {
         return;
     };
-    for (worst, used) in worst().iter().zip(calls) {
-        let bytes = worst.input.data.len();
-        println!("{:50}{bytes:>7}{:>7}", worst.name, used - none);
+    for (call, used) in calls().iter().zip(measured) {
+        println!("{:50}{:>7}{:>7}", call.name, call.bytes, used - none);
     }
 }
 
@@ -46,22 +85,22 @@ fn used() -> Option<Vec<u64>> {
     used.collect()
 }
 
-/// The run that is measured: two threads that make no call, then one for
-/// each of the worst inputs.
+/// The run that is measured: two threads that make no call, then one for each
+/// call.
 pub fn child() {
-    let loads = worst().into_iter().map(|worst| vec![worst.input]);
-    for inputs in [Vec::new(), Vec::new()].into_iter().chain(loads) {
-        let load = Load::new(inputs);
-        let thread = thread::spawn(move || below(load));
-        thread.join().expect("the call returns");
+    let none = || of_walk(Vec::new());
+    let calls = calls().into_iter().map(|call| call.run);
+    for run in [none(), none()].into_iter().chain(calls) {
+        let thread = thread::spawn(move || below(run));
+        drop(thread.join().expect("the call returns"));
     }
 }
 
-/// Runs the load below more stack than a thread takes to start and end, so
-/// that what the call takes shows.
-fn below(mut load: Load) -> Load {
+/// Runs the call below more stack than a thread takes to start and end, so that
+/// what the call takes shows. What it holds is dropped elsewhere.
+fn below(mut run: Run) -> Run {
     let stack = black_box([0_u8; 65_536]);
-    load.run(Way::Port);
+    run();
     black_box(stack);
-    load
+    run
 }

@@ -1,10 +1,12 @@
 //! The hand-written walks and readings of blocks give the port's answers and
-//! strips, the hand-written comparisons of prefixes the port's answers, and the
-//! hand-written checksums those of the second implementation.
+//! strips, the hand-written comparisons of prefixes the port's answers, the
+//! hand-written updates of a book its answers and rows, and the hand-written
+//! checksums those of the second implementation.
 
+use bench::careful::book::{Update, by_map, careful as by_search};
 use bench::careful::checksum::{CAREFUL as WORDS, PLAIN};
 use bench::careful::prefix::{Compare, careful, plain};
-use bench::corpus::{BLOCKS, KINDS, Kind, PREFIXES, blocks, prefixes, worst};
+use bench::corpus::{BLOCKS, BOOKS, KINDS, Kind, PREFIXES, blocks, prefixes, worst};
 use bench::{CAREFUL, PORT, walked};
 use inputs::{CLASSES, Input};
 use ospf_strip::exports;
@@ -129,5 +131,43 @@ fn checksums() {
         let lengths = (0..2_000).chain(65_500..65_540);
         let counts = checksum::compare(of, 9, lengths).expect("no difference");
         assert_eq!(counts.made, 1_980 + 36);
+    }
+}
+
+const UPDATES: [Update; 3] = [exports::ospf_book_update, by_search, by_map];
+
+/// Each update replaces what is newer and adds what is new, and has known LSAs
+/// that are not newer.
+#[test]
+fn on_the_books() {
+    for (row, (number, lsas)) in BOOKS.into_iter().enumerate() {
+        let book = bench::corpus::book(row);
+        assert_eq!(book.rows.len(), number);
+        for data in &book.updates {
+            let taken = UPDATES.map(|update| {
+                let mut rows = book.rows.clone();
+                (update(2, data, u32::MAX, 0, &mut rows), rows)
+            });
+            let [port, rest @ ..] = taken;
+            assert!(rest.iter().all(|taken| *taken == port), "{number}, {lsas}");
+            let (number_of, replaced) = exports::unpack(port.0);
+            let added = exports::additions(port.0) as usize;
+            let expected = match (number, lsas) {
+                (_, 10) => 1,
+                (100, _) => 0,
+                _ => lsas / 100,
+            };
+            assert_eq!((number_of, added), (0, expected), "{number}, {lsas}");
+            let replaced = replaced as usize;
+            assert!(replaced > 0 && replaced + added < lsas, "{replaced}");
+        }
+    }
+}
+
+#[test]
+fn books() {
+    for update in [by_search, by_map] {
+        let counts = book::compare(update, 9, 40_000).expect("no difference");
+        assert_eq!(counts.missing(), []);
     }
 }

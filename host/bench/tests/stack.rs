@@ -6,7 +6,7 @@ use std::thread;
 
 use bench::PORT;
 use bench::corpus::worst;
-use ospf_strip::{Newness, Strip, Version};
+use ospf_strip::{Counts, Newness, Row, Strip, Version};
 
 const STACK: usize = 64 << 10;
 
@@ -53,6 +53,28 @@ fn other_calls_on_a_small_thread() {
         assert_eq!(block.length(), 4 * 257);
         assert!(Strip::from_bytes(Version::V2, &strip).is_ok());
     });
+}
+
+/// The export that takes the most stack, on the most LSAs and many rows.
+#[test]
+fn update_of_a_book_on_a_small_thread() {
+    let lsas: Vec<Vec<u8>> = (0..3_276_u32)
+        .map(|id| [&[0; 4], &id.to_be_bytes()[..], &[0; 10], &[0, 20]].concat())
+        .collect();
+    let data = [&[0; 4], &lsas.concat()[..]].concat();
+    let mut rows = vec![Row::default(); 10_000];
+    let rows = on_a_small_thread(move || {
+        let new = Counts {
+            replaced: 0,
+            added: 3_276,
+        };
+        let taken = ospf_strip::take_update(Version::V3, &data, u32::MAX, 0, &mut rows);
+        assert_eq!(taken, Ok(new));
+        let taken = ospf_strip::take_update(Version::V3, &data, u32::MAX, 0, &mut rows);
+        assert_eq!(taken, Ok(Counts::default()));
+        rows
+    });
+    assert_eq!(rows.iter().filter(|row| row.is_used()).count(), 3_276);
 }
 
 /// The longest strip that 65,535 bytes of data can have is among them.

@@ -25,6 +25,8 @@ uint64_t use(const uint8_t *strip, size_t length);
 uint64_t use(const uint8_t *strip, size_t length)
 {
     uint64_t sum = ospf_number(1) + ospf_length(1) + ospf_block(1) + ospf_compared(1) + ospf_checksum(1);
+    struct ospf_row rows[2] = {{0, 0, 0, 0, 0, 0, 0, 0}, {0, 0, 0, 0, 0, 0, 0, 0}};
+    sum += ospf_replaced(1) + ospf_added(1) + rows[1].age;
     ospf_entry entry = ospf_begin();
     while ((entry = ospf_next(strip, length, entry)).kind != 0) {
         sum += ospf_id(entry) + ospf_start(entry) + ospf_end(entry);

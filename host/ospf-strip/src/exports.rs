@@ -3,19 +3,24 @@
 //!
 //! Each answers one number of 64 bits: the result in the low 32, the number
 //! of a refusal, or 0, in the next 8, and in the upper 24 the length of a
-//! block that was found, else 0. include/ospf.h says what each result is.
-//! Nothing here is refused by a panic. Inlined, a call goes to the library at once.
+//! block that was found, or how many rows an update added, else 0.
+//! include/ospf.h says what each result is. Nothing here is refused by a panic.
+//! Inlined, a call goes to the library at once.
+
+use crate::Row;
 
 /// The exports of `libospf.a`, as include/ospf.h declares them: a slice goes
 /// over as a pointer and a length.
 ///
 /// They are proved to end, to read only the bytes of the slices, to write
-/// only to those of `strip` and to the LSA whose checksum is made, and to keep
-/// no pointer. They neither unwind nor allocate, and have no state. What they
-/// ask of their caller is what a slice's reference is: a pointer that is not
-/// null, for that many bytes that stay as they are for the call; what is
-/// written to overlaps nothing else.
+/// only to those of `strip` and of `rows` and to the LSA whose checksum is
+/// made, and to keep no pointer. They neither unwind nor allocate, and have no
+/// state. What they ask of their caller is what a slice's reference is: a
+/// pointer that is not null and is aligned, for that many bytes or rows that
+/// stay as they are for the call; what is written to overlaps nothing else.
 mod library {
+    use crate::Row;
+
     unsafe extern "C" {
         pub unsafe fn ospf_lsa_headers(
             version: u8,
@@ -74,6 +79,15 @@ mod library {
         pub unsafe fn ospf_strip_step(strip: *const u8, strip_len: usize, place: usize) -> u64;
         pub unsafe fn ospf_lsa_checksum_check(lsa: *const u8, lsa_len: usize) -> u64;
         pub unsafe fn ospf_lsa_checksum_make(lsa: *mut u8, lsa_len: usize) -> u64;
+        pub unsafe fn ospf_book_update(
+            version: u8,
+            data: *const u8,
+            data_len: usize,
+            count: u32,
+            offset: u64,
+            rows: *mut Row,
+            rows_len: usize,
+        ) -> u64;
     }
 }
 
@@ -89,6 +103,14 @@ pub fn unpack(answer: u64) -> (u8, u32) {
 #[inline]
 #[must_use]
 pub fn block_length(answer: u64) -> u32 {
+    (answer >> 40) as u32
+}
+
+/// How many rows `ospf_book_update` added, from its answer; how many it
+/// replaced is the result.
+#[inline]
+#[must_use]
+pub fn additions(answer: u64) -> u32 {
     (answer >> 40) as u32
 }
 
@@ -194,4 +216,24 @@ pub fn ospf_lsa_checksum_make(lsa: &mut [u8]) -> u64 {
     // The export reads and writes those bytes and no others, and keeps no
     // pointer.
     unsafe { library::ospf_lsa_checksum_make(lsa.as_mut_ptr(), lsa.len()) }
+}
+
+/// Takes the LSAs of an update's body, at most `count`, against a table of rows.
+#[inline]
+#[must_use]
+pub fn ospf_book_update(
+    version: u8,
+    data: &[u8],
+    count: u32,
+    offset: u64,
+    rows: &mut [Row],
+) -> u64 {
+    let (from, to) = (data.as_ptr(), rows.as_mut_ptr());
+    // SAFETY: both pointers are those of references to slices of these
+    // lengths, which live for the call: so neither is null, `to` is aligned,
+    // `data` is not written to meanwhile, and `rows`, borrowed alone, overlaps
+    // nothing. A `Row` lies as the library's row does, and its fields may hold
+    // any bits. The export reads and writes those bytes and rows and no
+    // others, and keeps no pointer.
+    unsafe { library::ospf_book_update(version, from, data.len(), count, offset, to, rows.len()) }
 }

@@ -10,7 +10,8 @@
 //! a packet: an LLS data block, and the authentication trailer of OSPFv3.
 //! Beside these, [`newness`] and [`same_prefix`] compare two LSAs and two
 //! prefixes, and [`checksum_is_good`] and [`make_checksum`] check the checksum
-//! of an LSA and make it.
+//! of an LSA and make it. A [`Book`] holds a row for each LSA and takes whole
+//! updates; [`take_update`] takes one against rows of the caller's.
 //!
 //! ```
 //! use ospf_strip::{Buffer, Refusal, Value, Version};
@@ -40,9 +41,11 @@
 //! ```
 //!
 //! A call keeps no state, and any number of threads may make calls at once. It
-//! takes some hundred bytes of stack, whatever it is given (docs/BENCHMARKS.md).
+//! takes some hundred bytes of stack, whatever it is given, and an update that
+//! is taken against rows some 16 KiB (docs/BENCHMARKS.md).
 
 mod blocks;
+mod book;
 mod checksum;
 mod comparisons;
 mod entry;
@@ -54,6 +57,7 @@ mod version;
 mod walks;
 
 pub use blocks::{Block, auth_trailer, lls};
+pub use book::{Book, Counts, Row, Rows, take_update};
 pub use checksum::{checksum_is_good, make_checksum};
 pub use comparisons::{Newness, newness, same_prefix};
 pub use entry::{Entries, Entry, Kind, Value};

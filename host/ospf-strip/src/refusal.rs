@@ -5,8 +5,8 @@ use std::fmt;
 
 use crate::exports;
 
-/// A refusal of a walk, of the reading of a block, of a comparison or of a
-/// checksum.
+/// A refusal of a walk, of the reading of a block, of a comparison, of a
+/// checksum or of an update that is taken against rows.
 #[derive(Clone, Copy, Debug, PartialEq, Eq, Hash)]
 #[non_exhaustive]
 pub enum Refusal {
@@ -26,11 +26,16 @@ pub enum Refusal {
     },
     /// 10: the length of a prefix is above 128.
     PrefixLength,
-    /// 11: an age is above 3,600.
+    /// 11: an age is above 3,600, of an LSA or of a used row.
     Age,
     /// 13: fewer than 20 bytes of an LSA whose checksum is asked for, or more
     /// than 65,535.
     LsaLength,
+    /// 14: two used rows share an identity.
+    SharedIdentity,
+    /// 15: an update has more new identities than there are unused rows. A
+    /// [`Book`](crate::Book) grows, and so never gives this.
+    NoFreeRow,
 }
 
 impl Refusal {
@@ -46,6 +51,8 @@ impl Refusal {
             Refusal::PrefixLength => 10,
             Refusal::Age => 11,
             Refusal::LsaLength => 13,
+            Refusal::SharedIdentity => 14,
+            Refusal::NoFreeRow => 15,
         }
     }
 
@@ -64,6 +71,8 @@ impl Refusal {
             10 => Refusal::PrefixLength,
             11 => Refusal::Age,
             13 => Refusal::LsaLength,
+            14 => Refusal::SharedIdentity,
+            15 => Refusal::NoFreeRow,
             number => unreachable!("no export answers refusal {number} here"),
         })
     }
@@ -80,6 +89,8 @@ impl fmt::Display for Refusal {
             Refusal::PrefixLength => f.write_str("the length of a prefix is above 128"),
             Refusal::Age => f.write_str("an age is above 3,600"),
             Refusal::LsaLength => f.write_str("an LSA has 20 to 65,535 bytes"),
+            Refusal::SharedIdentity => f.write_str("two used rows share an identity"),
+            Refusal::NoFreeRow => f.write_str("more new identities than unused rows"),
         }
     }
 }

@@ -1,5 +1,5 @@
 //! The commands `./dissect` and `./fields`: what they take as input, that they agree on what is refused of the walks, and
-//! the blocks, which `./fields` takes alone.
+//! the blocks, which `./fields` takes alone; and `./book`, which takes updates, and as many as it is given.
 
 use std::fs;
 use std::os::unix::fs::symlink;
@@ -28,11 +28,11 @@ fn run(command: &str, words: &[&str], stdin: Stdio) -> Output {
         .unwrap()
 }
 
-/// Has both commands build what they need, once, so that no two tests do so at a time.
+/// Has all commands build what they need, once, so that no two tests do so at a time.
 fn built() {
     static BUILT: Once = Once::new();
     BUILT.call_once(|| {
-        for command in COMMANDS {
+        for command in COMMANDS.into_iter().chain(["book"]) {
             let output = run(command, &["examples/headers-v2.bin"], Stdio::null());
             assert!(output.status.success(), "{output:?}");
         }
@@ -269,11 +269,11 @@ fn errors_come_before_the_build() {
         fs::remove_dir_all(&copy).unwrap();
     }
     fs::create_dir_all(copy.join("tools")).unwrap();
-    for name in ["dissect", "fields", "tools/input"] {
+    for name in ["dissect", "fields", "book", "tools/input"] {
         symlink(top().join(name), copy.join(name)).unwrap();
     }
     let empty = file("commands-unbuilt-empty", b"");
-    for command in COMMANDS {
+    for command in COMMANDS.into_iter().chain(["book"]) {
         for word in ["none", ".", &empty, "-"] {
             let output = Command::new("sh")
                 .arg(copy.join(command))
@@ -288,4 +288,144 @@ fn errors_come_before_the_build() {
             assert_eq!(line.lines().count(), 1, "{line}");
         }
     }
+}
+
+/// README.md shows what `./book` prints of two examples, one of them refused.
+#[test]
+fn book_of_the_readme() {
+    built();
+    let words = ["examples/update-v3.bin", "examples/header-and-byte.bin"];
+    let text = printed("book", &words, Stdio::null());
+    let readme = fs::read_to_string(top().join("README.md")).unwrap();
+    let shown = format!("`./book {}` prints:\n\n```text\n{text}```", words.join(" "));
+    assert!(readme.contains(&shown), "{shown}");
+}
+
+/// What `./book` says of words that are no inputs.
+#[test]
+fn book_asks_for_files() {
+    let empty = file("commands-book-empty", b"");
+    let good = "examples/update-v2.bin";
+    let usage = "usage: ./book FILE.., or - for standard input in place of one of them; \
+        their second byte is 1 update";
+    let cases = [
+        (vec![], 2, usage.to_string()),
+        (
+            vec![good, "examples/none.bin"],
+            1,
+            "./book: examples/none.bin: no such file".to_string(),
+        ),
+        (
+            vec!["examples", good],
+            1,
+            "./book: examples: a directory, not a file".to_string(),
+        ),
+        (
+            vec![good, &empty],
+            1,
+            format!("./book: {empty}: empty, with no byte for the version and the walk"),
+        ),
+    ];
+    for (words, status, says) in cases {
+        let output = run("book", &words, Stdio::null());
+        assert_eq!(output.status.code(), Some(status), "{output:?}");
+        assert_eq!(text(output.stdout), "");
+        assert_eq!(text(output.stderr), format!("{says}\n"));
+    }
+}
+
+/// The first LSA of an update of version 2, alone, as another instance.
+fn instance(sequence: u8, age: u16) -> Vec<u8> {
+    let update = fs::read(top().join("examples/update-v2.bin")).unwrap();
+    let mut lsa = update[6..54].to_vec();
+    lsa[..2].copy_from_slice(&age.to_be_bytes());
+    lsa[15] = sequence;
+    [&[2, 1, 0, 0, 0, 1], &lsa[..]].concat()
+}
+
+const HEADS: &str = "version  type   id              router          sequence   checksum  age input
+";
+
+/// Updates of both versions, an instance that is newer and one that is older, and inputs that are refused.
+#[test]
+fn book_of_several_inputs() {
+    built();
+    let newer = file("commands-book-newer", &instance(3, 1));
+    let older = file("commands-book-older", &instance(2, 1));
+    let old = file("commands-book-old", &instance(4, 3_601));
+    let words = [
+        "examples/update-v2.bin",
+        &newer,
+        &older,
+        "examples/update-v3.bin",
+        &old,
+        "examples/headers-v2.bin",
+        "examples/update-v2.bin",
+    ];
+    let expected = "\
+input 1: 0 replaced, 7 added
+input 2: 1 replaced, 0 added
+input 3: 0 replaced, 0 added
+input 4: 0 replaced, 5 added
+input 5: refused 11
+input 6: refused 12
+input 7: 0 replaced, 0 added
+version  type   id              router          sequence   checksum  age input
+2        1      192.168.170.3   192.168.170.3   0x80000003 0x3A9C      1     2
+2        5      80.212.16.0     192.168.170.2   0x80000001 0x2A49      3     1
+2        5      148.121.171.0   192.168.170.2   0x80000001 0x34A5      3     1
+2        5      192.130.120.0   192.168.170.2   0x80000001 0xD319      3     1
+2        5      192.168.0.0     192.168.170.2   0x80000001 0x3708      3     1
+2        5      192.168.1.0     192.168.170.2   0x80000001 0x2C12      3     1
+2        5      192.168.172.0   192.168.170.2   0x80000001 0x3341      3     1
+3        0x2003 2               3.3.3.3         0x80000001 0xFCEC    115     4
+3        0x2003 1               3.3.3.3         0x80000001 0x2E96    125     4
+3        0x2003 0               3.3.3.3         0x80000001 0xC234    125     4
+3        0x0008 6               3.3.3.3         0x80000001 0xA049    135     4
+3        0x2009 0               3.3.3.3         0x80000001 0x0B7C    135     4
+";
+    assert_eq!(printed("book", &words, Stdio::null()), expected);
+}
+
+/// Standard input is one of the inputs, at any place.
+#[test]
+fn book_from_standard_input() {
+    built();
+    let open = || Stdio::from(fs::File::open(top().join("examples/update-v3.bin")).unwrap());
+    let by_name = |words: &[&str]| printed("book", words, Stdio::null());
+    let [v2, v3] = ["examples/update-v2.bin", "examples/update-v3.bin"];
+    assert_eq!(printed("book", &["-"], open()), by_name(&[v3]));
+    assert_eq!(printed("book", &["-", v2], open()), by_name(&[v3, v2]));
+    assert_eq!(printed("book", &[v2, "-"], open()), by_name(&[v2, v3]));
+}
+
+/// What is refused, by the numbers of `./dissect` where it refuses the update, and changes no row.
+#[test]
+fn book_refuses() {
+    built();
+    let cases = [
+        (vec![2], 4),
+        (vec![2, 0], 12),
+        (vec![3, 2], 12),
+        (vec![3, 3], 12),
+        (vec![1, 1, 0, 0, 0, 0], 1),
+        (vec![2, 1, 0, 0, 0], 4),
+        ([vec![3, 1], vec![0; 2_049]].concat(), 2),
+        (instance(1, 0xFFFF), 11),
+    ];
+    for (input, number) in cases {
+        let path = file("commands-book-refused", &input);
+        let text = printed("book", &[&path], Stdio::null());
+        assert_eq!(text, format!("input 1: refused {number}\n{HEADS}"));
+        if input.get(1) == Some(&1) && number != 11 {
+            let dissected = printed("dissect", &[&path], Stdio::null());
+            assert_eq!(dissected, format!("refused {number} 0\n"));
+        }
+    }
+    let longest = file(
+        "commands-book-longest",
+        &[vec![3, 1], vec![0; 2_048]].concat(),
+    );
+    let text = printed("book", &[&longest], Stdio::null());
+    assert_eq!(text, format!("input 1: 0 replaced, 0 added\n{HEADS}"));
 }

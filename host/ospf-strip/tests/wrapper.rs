@@ -7,7 +7,7 @@ use inputs::{Class, Input};
 use lines::line;
 use listing::hex;
 use oracle::Walk;
-use ospf_strip::{Buffer, Kind, OutsidePacket, Refusal, Strip, Version, exports};
+use ospf_strip::{Buffer, Kind, OutsidePacket, Refusal, Row, Strip, Version, exports};
 use walk::{run, strip_of};
 
 /// Entries read back and written again by another program are the strip.
@@ -58,6 +58,9 @@ fn refusals_by_number() {
     let old = [0x0E, 0x11].iter().copied().chain([0; 18]);
     let old: Vec<u8> = old.collect();
     let new = [0; 20];
+    let update = [&[0; 22][..], &[0, 20]].concat();
+    let mut twins = [Row::default(); 2];
+    twins.iter_mut().for_each(|row| row.used = 1);
     let (v2, v3) = (Version::V2, Version::V3);
     let refusals = [
         (Version::try_from(1).unwrap_err(), Refusal::Version, 1),
@@ -116,6 +119,16 @@ fn refusals_by_number() {
             ospf_strip::make_checksum(&mut [0; 19]).unwrap_err(),
             Refusal::LsaLength,
             13,
+        ),
+        (
+            ospf_strip::take_update(v2, &[0; 4], 0, 0, &mut twins).unwrap_err(),
+            Refusal::SharedIdentity,
+            14,
+        ),
+        (
+            ospf_strip::take_update(v2, &update, 1, 0, &mut []).unwrap_err(),
+            Refusal::NoFreeRow,
+            15,
         ),
     ];
     for (found, refusal, number) in refusals {

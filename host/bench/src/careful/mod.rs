@@ -2,9 +2,10 @@
 //! no allocation and no unsafe code. An entry's bytes are taken off the lent
 //! strip by one test, a record's or link's off the data by one. [`blocks`] has the
 //! readings of blocks, [`checksum`] the LS checksum, [`prefix`] the comparison of
-//! prefixes.
+//! prefixes, [`book`] updates taken against rows.
 
 pub mod blocks;
+pub mod book;
 pub mod checksum;
 pub mod prefix;
 mod v2;

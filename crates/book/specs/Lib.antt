@@ -1,0 +1,7 @@
+pub mod Rows
+pub mod Filter
+pub mod Takes
+pub mod Lsas
+pub mod Ages
+pub mod Counts
+pub mod Updates
