@@ -41,10 +41,21 @@ fn missing_is_said() {
     }
 }
 
-/// How the third implementation reads the rule.
-#[derive(Clone, Copy, Debug, PartialEq)]
-enum Reading {
-    Right,
+/// How the third implementation reads the rule: right, or by one misreading. One
+/// list has them all, so that none is left untried.
+macro_rules! readings {
+    ($($wrong:ident,)*) => {
+        #[derive(Clone, Copy, Debug, PartialEq)]
+        enum Reading {
+            Right,
+            $($wrong,)*
+        }
+
+        const WRONG: [Reading; 35] = [$(Reading::$wrong,)*];
+    };
+}
+
+readings! {
     NoVersionInIdentity,
     NoTypeInIdentity,
     NoIdInIdentity,
@@ -83,44 +94,6 @@ enum Reading {
 }
 
 use Reading::*;
-
-const WRONG: [Reading; 35] = [
-    NoVersionInIdentity,
-    NoTypeInIdentity,
-    NoIdInIdentity,
-    NoRouterInIdentity,
-    TypesOf13Bits,
-    TypesWrittenBy13Bits,
-    OptionsInTheType,
-    SameReplaces,
-    OlderReplaces,
-    AnyReplaces,
-    UnsignedSequences,
-    AgesOf901AreTheSame,
-    LastUnusedRow,
-    UnusedRowMet,
-    NewTakesNoSecondLook,
-    CountsSwapped,
-    AdditionsInTheNumber,
-    MarkOf1Alone,
-    MarkKept,
-    SharedIdentityBeforeAge,
-    NoFreeRowBeforeSharedIdentity,
-    OffsetAfterTooShort,
-    NoFreeRowByLsas,
-    NoFreeRowIfFull,
-    RefusalThatWrites,
-    RefusalThatCounts,
-    PastTheCount,
-    PastTheLength,
-    LengthOf19,
-    UnusedAges,
-    NoRowAges,
-    Age3600,
-    UnusedIdentities,
-    HashesShared,
-    NextRowWritten,
-];
 
 fn be16(bytes: &[u8], at: usize) -> u16 {
     u16::from_be_bytes([bytes[at], bytes[at + 1]])
