@@ -47,11 +47,11 @@ uint64_t ospf_lsa(uint8_t version, const uint8_t *data, size_t data_len, uint64_
  */
 
 /* An LLS data block (RFC 5613), of either version. The 16 bits at 2 have its length in words of four bytes; none stands
-   there if that is 0 or beyond data. Its TLVs are one range. The strip has 45 bytes. */
+   there if that is 0 or beyond data. Its TLVs are one range. The strip has 49 bytes. */
 uint64_t ospf_lls(const uint8_t *data, size_t data_len, uint64_t offset, uint8_t *strip, size_t strip_len);
 
 /* The authentication trailer of OSPFv3 (RFC 7166). The 16 bits at 2 have its length in bytes; none stands there if that
-   is below 16 or beyond data. The digest is not checked. The strip has 75 bytes. */
+   is below 16 or beyond data. The digest is not checked. The strip has 79 bytes. */
 uint64_t ospf_auth_trailer(const uint8_t *data, size_t data_len, uint64_t offset, uint8_t *strip, size_t strip_len);
 
 /*
@@ -191,9 +191,9 @@ enum {
     OSPF_KIND_U64 = 10
 };
 
-/* How many bytes follow it: id, start and end of every kind but a close, then the value. */
+/* How many bytes follow it: id, start and end of every kind but a close, then the value, or the count of an open. */
 enum {
-    OSPF_BODY_OPEN = 9,
+    OSPF_BODY_OPEN = 13,
     OSPF_BODY_CLOSE = 0,
     OSPF_BODY_U8 = 10,
     OSPF_BODY_U16 = 11,
@@ -453,7 +453,7 @@ static inline const char *ospf_name(uint8_t version, uint8_t id)
  *     ospf_entry entry = ospf_begin();
  *     while ((entry = ospf_next(strip, length, entry)).kind != 0) {
  *         switch (entry.kind) {
- *         case OSPF_KIND_OPEN: ... ospf_id(entry), ospf_start(entry), ospf_end(entry) ...; break;
+ *         case OSPF_KIND_OPEN: ... ospf_id(entry), ospf_start(entry), ospf_end(entry), ospf_count(entry) ...; break;
  *         case OSPF_KIND_U16: ... ospf_u16(entry) ...; break;
  *         ...
  *         }
@@ -578,6 +578,10 @@ static inline uint8_t ospf_id(ospf_entry entry) { return entry.at[1]; }
 static inline uint32_t ospf_start(ospf_entry entry) { return ospf_be32(entry.at + 2); }
 
 static inline uint32_t ospf_end(ospf_entry entry) { return ospf_be32(entry.at + 6); }
+
+/* How many entries are directly inside the container that an entry of OSPF_KIND_OPEN opens: a container among them
+   counts once, closes do not. */
+static inline uint32_t ospf_count(ospf_entry entry) { return ospf_be32(entry.at + 10); }
 
 /* The value, of an entry of that kind; ospf_u32 also of OSPF_KIND_IPV4, an address as a number. OSPF_KIND_OPEN, _BYTES
    and _UNREACHABLE have none. */

@@ -8,11 +8,11 @@ conversion, and strips by the table of entry kinds.
 """
 import struct
 
-# kind: name, format of the value
-KINDS = {1: ("open", None), 2: ("close", None), 3: ("u8", "B"), 4: ("u16", "H"),
+# kind: name, format of the value, or of the count
+KINDS = {1: ("open", "I"), 2: ("close", None), 3: ("u8", "B"), 4: ("u16", "H"),
          5: ("u32", "I"), 6: ("ip4", "I"), 7: ("ip6", "16s"), 8: ("bytes", None),
          9: ("never", None), 10: ("u64", "Q")}
-BODY = {1: 9, 2: 0, 3: 10, 4: 11, 5: 13, 6: 13, 7: 25, 8: 9, 9: 9, 10: 17}
+BODY = {1: 13, 2: 0, 3: 10, 4: 11, 5: 13, 6: 13, 7: 25, 8: 9, 9: 9, 10: 17}
 
 
 def octets(length):
@@ -133,7 +133,7 @@ def kinds():
     top = 2 ** 32 - 1
     v6 = bytes.fromhex("20010db800000000" + "0000000000000001")
     assert int.from_bytes(v6[:8], "big") == 2306139568115548160
-    print_strip(entry(1, 255, top, top) + entry(3, 1, 0, 1, 255) + entry(4, 2, 1, 3, 65535)
+    print_strip(entry(1, 255, top, top, top) + entry(3, 1, 0, 1, 255) + entry(4, 2, 1, 3, 65535)
                 + entry(5, 3, 3, 7, top) + entry(9, 9, 7, 10) + entry(6, 4, 7, 11, 0xC0A80101) + entry(7, 5, 11, 27, v6)
                 + entry(8, 6, 27, 65562) + entry(10, 7, 34, 42, 2 ** 64 - 1) + entry(2))
 
@@ -169,7 +169,7 @@ def metrics():
 def steps():
     print("steps")
     for s, p in [(b"", 0), (b"", 1), (b"\x02", 0), (b"\x02", 1), (b"\x02", 2), (b"\x00", 0),
-                 (b"\x0b", 0), (b"\xff", 0), (b"\x01" + b"." * 8, 0),
+                 (b"\x0b", 0), (b"\xff", 0), (b"\x01" + b"." * 12, 0),
                  (b"\x03" + b"." * 9, 0),
                  (b"\x04" + b"." * 10, 0), (b"\x05" + b"." * 12, 0), (b"\x06" + b"." * 12, 0),
                  (b"\x07" + b"." * 24, 0), (b"\x08" + b"." * 8, 0),

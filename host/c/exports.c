@@ -23,7 +23,7 @@ static void check(int ok, const char *what)
 
 /* Entries as the strip has them, for places below 256. */
 #define PLACES(start, end) 0, 0, 0, start, 0, 0, 0, end
-#define OPEN(id, start, end) OSPF_KIND_OPEN, id, PLACES(start, end)
+#define OPEN(id, start, end, count) OSPF_KIND_OPEN, id, PLACES(start, end), 0, 0, 0, count
 #define CLOSE OSPF_KIND_CLOSE
 #define U8(id, start, end, v) OSPF_KIND_U8, id, PLACES(start, end), v
 #define U16(id, start, end, a, b) OSPF_KIND_U16, id, PLACES(start, end), a, b
@@ -95,7 +95,7 @@ static void check_strip(const char *what, uint64_t answer, const uint8_t *strip,
 static void headers(void)
 {
     const uint8_t data[39] = {0, 1, 2, 1, 10, 0, 0, 1, 10, 0, 0, 2, 0x80, 0, 0, 1, 0x12, 0x34, 0, 24};
-    const uint8_t expected[] = {OPEN(114, 8, 28), OPEN(112, 8, 28), HEADER_V2(8, 1, 24), CLOSE, CLOSE,
+    const uint8_t expected[] = {OPEN(114, 8, 28, 1), OPEN(112, 8, 28, 8), HEADER_V2(8, 1, 24), CLOSE, CLOSE,
                                 BYTES(25, 28, 47)};
     uint8_t strip[200];
     memset(strip, 0xA5, sizeof strip);
@@ -104,6 +104,9 @@ static void headers(void)
     /* The values of the header: age, options, type, both ids, sequence number, checksum and length. */
     uint64_t values = 1 + 2 + 1 + 0x0A000001u + 0x0A000002u + 0x80000001u + 0x1234u + 24;
     check(sum_of_values(strip, ospf_length(answer)) == values, "the header's values");
+    ospf_entry array = ospf_step(strip, sizeof expected, 0);
+    check(ospf_count(array) == 1, "the list's count");
+    check(ospf_count(ospf_step(strip, sizeof expected, array.next)) == 8, "the header's count");
     ospf_entry tail = ospf_step(strip, sizeof expected, sizeof expected - 1 - OSPF_BODY_BYTES);
     check(tail.kind == OSPF_KIND_BYTES && tail.next == sizeof expected, "the tail's entry");
     check(ospf_id(tail) == OSPF_V2_UNPARSED && ospf_start(tail) == 28 && ospf_end(tail) == 47, "the tail's range");
@@ -115,8 +118,8 @@ static void update(void)
 {
     const uint8_t data[32] = {0,    0, 0, 1, 0,    1,    0x20, 2,  0, 0, 0, 9, 10, 0, 0, 2,
                               0x80, 0, 0, 1, 0x12, 0x34, 0,    28, 0, 0, 0, 3, 10, 0, 0, 7};
-    const uint8_t expected[] = {OPEN(114, 4, 32),
-                                OPEN(113, 4, 32),
+    const uint8_t expected[] = {OPEN(114, 4, 32, 1),
+                                OPEN(113, 4, 32, 9),
                                 U16(0, 4, 6, 0, 1),
                                 U16(1, 6, 8, 0x20, 2),
                                 U32(2, 8, 12, 0, 0, 0, 9),
@@ -125,7 +128,7 @@ static void update(void)
                                 U16(5, 20, 22, 0x12, 0x34),
                                 U16(6, 22, 24, 0, 28),
                                 U32(14, 25, 28, 0, 0, 0, 3),
-                                OPEN(16, 28, 32),
+                                OPEN(16, 28, 32, 1),
                                 IPV4(98, 28, 32, 10, 0, 0, 7),
                                 CLOSE,
                                 CLOSE,
@@ -156,12 +159,12 @@ static void unreachable_metrics(void)
     const uint8_t expected[] = {HEADER_V2(0, 3, 36),
                                 IPV4(17, 20, 24, 255, 255, 0, 0),
                                 UNREACHABLE(19, 25, 28),
-                                OPEN(20, 28, 36),
-                                OPEN(97, 28, 32),
+                                OPEN(20, 28, 36, 2),
+                                OPEN(97, 28, 32, 2),
                                 U8(81, 28, 29, 8),
                                 U32(82, 29, 32, 0, 0, 0, 10),
                                 CLOSE,
-                                OPEN(97, 32, 36),
+                                OPEN(97, 32, 36, 2),
                                 U8(81, 32, 33, 16),
                                 UNREACHABLE(82, 33, 36),
                                 CLOSE,
@@ -194,13 +197,13 @@ static void check_block(const char *what, uint64_t answer, uint32_t block, const
 static void lls(void)
 {
     const uint8_t data[14] = {0xFF, 0xF6, 0, 3, 0, 1, 0, 4, 0, 0, 0, 1, 0xBE, 0xEF};
-    const uint8_t expected[45] = {OPEN(136, 40, 52), U16(128, 40, 42, 0xFF, 0xF6), U16(129, 42, 44, 0, 3),
+    const uint8_t expected[49] = {OPEN(136, 40, 52, 3), U16(128, 40, 42, 0xFF, 0xF6), U16(129, 42, 44, 0, 3),
                                   BYTES(130, 44, 52), CLOSE};
     uint8_t strip[60];
     memset(strip, 0xA5, sizeof strip);
     uint64_t answer = ospf_lls(data, sizeof data, 40, strip, sizeof strip);
     check_block("LLS block", answer, 12, strip, sizeof strip, expected, sizeof expected);
-    check(ospf_lls(data, 12, 40, strip, 45) == answer, "LLS block, data and buffer full");
+    check(ospf_lls(data, 12, 40, strip, 49) == answer, "LLS block, data and buffer full");
     check(sum_of_values(strip, ospf_length(answer)) == 0xFFF6u + 3, "the LLS block's values");
     check(strcmp(ospf_name(2, OSPF_ID_LLS), "lls") == 0 && strcmp(ospf_name(3, OSPF_ID_LLS), "lls") == 0, "its name");
 }
@@ -209,7 +212,7 @@ static void lls(void)
 static void auth_trailer(void)
 {
     const uint8_t data[19] = {0, 1, 0, 18, 0xFF, 0xFF, 0, 100, 0x80, 0, 0, 1, 0, 0, 0, 2, 0xDE, 0xAD, 0xBE};
-    const uint8_t expected[75] = {OPEN(152, 0, 18),
+    const uint8_t expected[79] = {OPEN(152, 0, 18, 5),
                                   U16(144, 0, 2, 0, 1),
                                   U16(145, 2, 4, 0, 18),
                                   U16(146, 6, 8, 0, 100),
@@ -220,7 +223,7 @@ static void auth_trailer(void)
     memset(strip, 0xA5, sizeof strip);
     uint64_t answer = ospf_auth_trailer(data, sizeof data, 0, strip, sizeof strip);
     check_block("trailer", answer, 18, strip, sizeof strip, expected, sizeof expected);
-    check(ospf_auth_trailer(data, 18, 0, strip, 75) == answer, "trailer, data and buffer full");
+    check(ospf_auth_trailer(data, 18, 0, strip, 79) == answer, "trailer, data and buffer full");
     uint64_t values = 1 + 18 + 100 + 0x8000000100000002u;
     check(sum_of_values(strip, ospf_length(answer)) == values, "the trailer's values");
     check(strcmp(ospf_name(3, OSPF_ID_CRYPTO_SEQUENCE_NUMBER), "crypto_sequence_number") == 0, "the number's name");
@@ -231,22 +234,22 @@ static void no_blocks(void)
 {
     static uint8_t longest[65536];
     const uint8_t words[8] = {0, 0, 0, 2}, trailer[16] = {0, 1, 0, 16};
-    uint8_t data[16] = {0}, strip[75], before[75];
+    uint8_t data[16] = {0}, strip[79], before[79];
     memset(before, 0xA5, sizeof before);
     memcpy(strip, before, sizeof before);
-    check(ospf_lls(words, 3, 0, strip, 75) == 0, "LLS block, 3 bytes");
-    check(ospf_lls(words, 7, 0, strip, 75) == 0, "LLS block, a byte short");
+    check(ospf_lls(words, 3, 0, strip, 79) == 0, "LLS block, 3 bytes");
+    check(ospf_lls(words, 7, 0, strip, 79) == 0, "LLS block, a byte short");
     check(ospf_lls(words, 7, 0, strip, 0) == 0, "LLS block, absent without room");
-    check(ospf_lls(data, 16, 0, strip, 75) == 0, "LLS block, no word");
-    check(ospf_auth_trailer(trailer, 15, 0, strip, 75) == 0, "trailer, a byte short");
+    check(ospf_lls(data, 16, 0, strip, 79) == 0, "LLS block, no word");
+    check(ospf_auth_trailer(trailer, 15, 0, strip, 79) == 0, "trailer, a byte short");
     data[3] = 15;
-    check(ospf_auth_trailer(data, 16, 0, strip, 75) == 0, "trailer, a length of 15");
+    check(ospf_auth_trailer(data, 16, 0, strip, 79) == 0, "trailer, a length of 15");
     data[3] = 17;
     check(ospf_auth_trailer(data, 16, 4294901760, strip, 0) == 0, "trailer, a length of 17");
     longest[3] = 16;
     uint64_t (*const blocks[2])(const uint8_t *, size_t, uint64_t, uint8_t *, size_t) = {ospf_lls, ospf_auth_trailer};
     for (int i = 0; i < 2; i++) {
-        const uint32_t needed = i == 0 ? 45 : 75;
+        const uint32_t needed = i == 0 ? 49 : 79;
         check(blocks[i](longest, 65536, 4294901761, strip, 0) == refused(OSPF_REFUSED_TOO_LONG, 0), "block, refusal 2");
         check(blocks[i](longest, 64, 4294901761, strip, 0) == refused(OSPF_REFUSED_OFFSET, 0), "block, refusal 3");
         check(blocks[i](longest, 0, 4294901761, strip, 0) == refused(OSPF_REFUSED_OFFSET, 0), "no block, refusal 3");
@@ -448,15 +451,15 @@ static void steps(void)
 static void refusals(void)
 {
     static const uint8_t data[65536];
-    uint8_t strip[10], before[10];
+    uint8_t strip[14], before[14];
     memset(before, 0xA5, sizeof before);
     memcpy(strip, before, sizeof before);
-    check(ospf_lsa_headers(4, data, 0, 0, strip, 10) == refused(OSPF_REFUSED_VERSION, 0), "refusal 1");
-    check(ospf_lsa(2, data, 65536, 0, strip, 10) == refused(OSPF_REFUSED_TOO_LONG, 0), "refusal 2");
-    check(ospf_lsu_lsas(3, data, 4, 0, 4294901761, strip, 10) == refused(OSPF_REFUSED_OFFSET, 0), "refusal 3");
-    check(ospf_lsu_lsas(3, data, 3, 0, 4294901760, strip, 10) == refused(OSPF_REFUSED_TOO_SHORT, 0), "refusal 4");
-    uint64_t answer = ospf_lsa_headers(2, data, 0, 0, strip, 10);
-    check(ospf_number(answer) == OSPF_REFUSED_ROOM && ospf_length(answer) == 11, "refusal 5");
+    check(ospf_lsa_headers(4, data, 0, 0, strip, 14) == refused(OSPF_REFUSED_VERSION, 0), "refusal 1");
+    check(ospf_lsa(2, data, 65536, 0, strip, 14) == refused(OSPF_REFUSED_TOO_LONG, 0), "refusal 2");
+    check(ospf_lsu_lsas(3, data, 4, 0, 4294901761, strip, 14) == refused(OSPF_REFUSED_OFFSET, 0), "refusal 3");
+    check(ospf_lsu_lsas(3, data, 3, 0, 4294901760, strip, 14) == refused(OSPF_REFUSED_TOO_SHORT, 0), "refusal 4");
+    uint64_t answer = ospf_lsa_headers(2, data, 0, 0, strip, 14);
+    check(ospf_number(answer) == OSPF_REFUSED_ROOM && ospf_length(answer) == 15, "refusal 5");
     check(memcmp(strip, before, sizeof before) == 0, "a refused call writes nothing");
 }
 

@@ -10,13 +10,14 @@
 typedef struct reader_step {
     uint64_t high, low; /* an IPv6 address in two halves; any other value in low */
     size_t next;
-    uint32_t start, end;
+    uint32_t start, end, count;
     uint8_t kind, refused, id;
 } reader_step;
 
 static void read_value(ospf_entry entry, reader_step *step)
 {
     switch (entry.kind) {
+    case OSPF_KIND_OPEN: step->count = ospf_count(entry); break;
     case OSPF_KIND_U8: step->low = ospf_u8(entry); break;
     case OSPF_KIND_U16: step->low = ospf_u16(entry); break;
     case OSPF_KIND_U32:
@@ -32,7 +33,7 @@ static void read_value(ospf_entry entry, reader_step *step)
 
 static void read_entry(ospf_entry entry, reader_step *step)
 {
-    const reader_step nothing = {0, 0, 0, 0, 0, 0, 0, 0};
+    const reader_step nothing = {0, 0, 0, 0, 0, 0, 0, 0, 0};
     *step = nothing;
     step->next = entry.next;
     step->kind = entry.kind;
@@ -59,7 +60,8 @@ uint8_t reader_next(const uint8_t *strip, size_t length, reader_step *steps, siz
     return entry.refused;
 }
 
-/* The sum of every id, start, end and value of a strip, modulo 2^64; where an entry is refused, of those before it. */
+/* The sum of every id, start, end, value and count of a strip, modulo 2^64; where an entry is refused, of those before
+   it. */
 uint64_t reader_read_all(const uint8_t *strip, size_t length)
 {
     uint64_t sum = 0;
@@ -68,6 +70,8 @@ uint64_t reader_read_all(const uint8_t *strip, size_t length)
         switch (entry.kind) {
         case OSPF_KIND_CLOSE: break;
         case OSPF_KIND_OPEN:
+            sum += (uint64_t)ospf_id(entry) + ospf_start(entry) + ospf_end(entry) + ospf_count(entry);
+            break;
         case OSPF_KIND_BYTES:
         case OSPF_KIND_UNREACHABLE:
             sum += (uint64_t)ospf_id(entry) + ospf_start(entry) + ospf_end(entry);

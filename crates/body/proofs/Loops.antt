@@ -3,21 +3,22 @@ use Prim.Native.Nat.{ℕ, ◌+◌, ◌*◌, ◌-◌, ◌≤◌, ◌<◌}
 use native.Mathlib.Nat.{suc-mul}
 use native.Mathlib.Omega.{arith}
 use Rattle.std.proofs.Math.Nat.{mul-le-mul_right}
-use mathlib.Core.Path.{◌≡◌, refl, ◌∙◌}
+use mathlib.Core.Path.{◌≡◌, refl}
 use mathlib.Core.List.{List, [], flat_map}
 use mathlib.Core.Option.{some}
 use lib.ListN.{length}
 use Rattle.format.specs.Strip.{Entry, code, encode}
 use Rattle.format.specs.Strip.Entry.{opens, closes}
 use Rattle.format.specs.Body.{listing, listing_if_any}
+use Rattle.format.specs.Inside.{Counts}
 use Rattle.format.specs.Cut.{Span, Rule, cut, after, fixed_rule}
 use Rattle.format.proofs.Loop.{Going, going_begin, going_turn, going_finish, ahead, spread, spread_append, spread_one}
 use Rattle.format.proofs.Unique.{span}
-use Rattle.format.proofs.Lists.{encode-container, fixed_cut, if_none, if_some}
-use Rattle.format.proofs.Lists as last
+use Rattle.format.proofs.Inside.{direct_of, counts_each}
+use Rattle.format.proofs.Lists.{fixed_cut, if_none, if_some}
 use Rattle.strip_put.specs.declared.Writer.{Writer}
 use Rattle.strip_put.specs.Writer.{Writes, HasRoom}
-use Rattle.strip_put.proofs.Laws.{nothing, then, wrote_of, writes_of}
+use Rattle.strip_put.proofs.Laws.{nothing, then, contained}
 
 -- The entries before pos are written to the strip, and `left` are still due.
 abbrev pub Writing : (r : Rule) (f : Span → List Entry) (b : List ℕ) (count first : ℕ) (old now : Writer) (pos left : ℕ) → Type 0
@@ -43,18 +44,11 @@ module _ (r : Rule) (f : Span → List Entry) (b : List ℕ) (count first : ℕ)
       → Writes old (spread f (cut r b count first)) now × (pos ≡ after first (cut r b count first)) × (length (cut r b count first) ≡ count - left)
   finish g e = going_finish r b count first g e
 
--- An array is written by writing its opening, its entries, and its close.
-pub listed : {u v w x : Writer} (i : ℕ) (f : Span → List Entry) (o p : ℕ) (ss : List Span) {e : ℕ} → o + after p ss ≡ e
-    → Writes u (code (opens i (o + p) e)) v → Writes v (spread f ss) w → Writes w (code closes) x → Writes u (encode (listing i f o p ss)) x
+-- An array is written by writing its opening, which counts its entries, then these, and its close. Each span is shown by one.
+pub listed : {u v w x : Writer} (i : ℕ) (f : Span → List Entry) (o p : ℕ) (ss : List Span) {e n : ℕ} → ((s : Span) → Counts 1 (f s)) → n ≡ length ss → o + after p ss ≡ e
+    → Writes u (code (opens i (o + p) e n)) v → Writes v (spread f ss) w → Writes w (code closes) x → Writes u (encode (listing i f o p ss)) x
 unfolding listing spread
-listed i f o p ss q a b c = rw (encode-container i (o + p) (o + after p ss) (flat_map f ss), q) (then a (then b c))
-
--- The same where the array is opened last. The entries leave ten bytes for that.
-pub listed_last : {u v w x : Writer} (i : ℕ) (f : Span → List Entry) (o p : ℕ) (ss : List Span) {e : ℕ} → o + after p ss ≡ e
-    → Writes (record u { at = u.at + 10 }) (spread f ss) v → Writes (record v { at = u.at }) (code (opens i (o + p) e)) w → Writes (record w { at = v.at }) (code closes) x
-    → Writes u (encode (listing i f o p ss)) x
-unfolding spread
-listed_last i f o p ss q a b c = writes_of (last.listed_last i f o p ss q (wrote_of a) (wrote_of b) (wrote_of c)) (c.same_buffer ∙ (b.same_buffer ∙ a.same_buffer))
+listed i f o p ss h m q a b c = contained i (o + p) (o + after p ss) (flat_map f ss) (rw (direct_of (counts_each f h ss), ← m, q) a) b c
 
 -- An array that is opened only where it has an entry, of as many entries of n bytes as the body has room for.
 module _ (i n : ℕ) (f : Span → List Entry) (b : List ℕ) (o p k : ℕ) where

@@ -1,6 +1,6 @@
 -- The code's answers for a body of the definitions.
 use Rattle.std.specs.Prelude.{ℕ, ◌≡◌, List, [], length}
-use Rattle.format.specs.Strip.{encode}
+use Rattle.format.specs.Strip.{direct, encode}
 use Rattle.format.specs.Body as body
 use Rattle.format.specs.Body.Body.{decoded, raw}
 use Rattle.body.specs.declared.Body.{Body}
@@ -22,7 +22,7 @@ measured_of raw = measured.Raw
 
 -- The answer of a function that writes a body's entries.
 abbrev pub pushed_of : body.Body → Body
-pushed_of (decoded es n) = Decoded n
+pushed_of (decoded es n) = Decoded (direct 0 es) n
 pushed_of raw = Raw
 
 -- What such a function leaves of the strip, and answers.

@@ -1,12 +1,13 @@
 // What the LSA bodies of both versions share: the answers of a body's functions, the flags of a router, the array of
 // attached routers, and the bytes that are left of a body. Lists are in `list`.
-#![tactic(auto, unfolding(format::specs::Strip::code, format::specs::Strip::encode, format::specs::Body::leftover, format::specs::Body::attached_router, format::specs::Body::whole))]
+#![tactic(auto, unfolding(format::specs::Strip::code, format::specs::Strip::direct, format::specs::Strip::encode, format::specs::Body::leftover, format::specs::Body::attached_router, format::specs::Body::whole))]
 
 ghost use Rattle.std.specs.Prelude.{◌≡◌, ℕ, ◌-◌, ◌≤◌, ◌<◌, List, length};
 ghost use Rattle.std.proofs.Common.{rules};
-ghost use Rattle.format.specs.Strip.{Entry, encode};
+ghost use Rattle.format.specs.Strip.{Entry, direct, encode};
 ghost use Rattle.format.specs.Cut.{after};
 ghost use Rattle.format.specs.Body.{leftover, listing, whole, router_flags, attached_router};
+ghost use Rattle.format.proofs.Direct.{one_attached_router};
 ghost use Rattle.body.specs.Answers.{measured_of};
 ghost use Rattle.body.specs.List.{followed};
 ghost use Rattle.strip_put.specs.Writer.{HasRoom, Writes};
@@ -20,10 +21,11 @@ use strip_put::{Part, Writer};
 
 pub mod list;
 
-// What became of a body that is pushed: the number of bytes consumed, or that it is raw.
+// What became of a body that is pushed: the number of its direct entries, fewer than 256, and of the bytes consumed; or that it is
+// raw.
 #[derive(Clone, Copy, PartialEq, Eq, Debug)]
 pub enum Body {
-    Decoded { consumed: usize },
+    Decoded { entries: u8, consumed: usize },
     Raw,
 }
 
@@ -56,15 +58,18 @@ pub fn measure_unparsed(body: &[u8], p: usize) -> usize
     if p < body.len() { BYTES_LENGTH } else { 0 }
 }
 
-// The bytes from p to the end of a body, if there are any.
-pub fn push_unparsed(strip: &mut Writer, id: u8, body: Part, p: usize)
+// The bytes from p to the end of a body, if there are any. Answers the number of entries, which is 1 or 0.
+pub fn push_unparsed(strip: &mut Writer, id: u8, body: Part, p: usize) -> u8
     requires { HasRoom strip.old (length (encode (leftover id body.bytes.now body.offset p))) }
-    ensures { Writes strip.old (encode (leftover id body.entry.bytes.now body.entry.offset p)) strip.new }
+    ensures wrote { Writes strip.old (encode (leftover id body.entry.bytes.now body.entry.offset p)) strip.new }
+    ensures entries_value { result ≡ direct 0 (leftover id body.entry.bytes.now body.entry.offset p) }
 {
     let n = body.len();
-    if p < n {
-        push_bytes_at(strip, id, body, p, n - p);
+    if n <= p {
+        return 0;
     }
+    push_bytes_at(strip, id, body, p, n - p);
+    1
 }
 
 // What `push_router_flags` writes.
@@ -104,6 +109,8 @@ impl Item for AttachedRouter {
     }
 
     ghost size_nonzero = { Prim.search rules };
+
+    ghost one = { one_attached_router };
 }
 
 // Their array holds as many as the body from 4 on. Answers the place where it ends.

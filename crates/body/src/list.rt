@@ -2,6 +2,7 @@
 ghost use Rattle.std.specs.Prelude.{◌≡◌, ℕ, ◌+◌, ◌*◌, ◌≤◌, ◌<◌, List, length};
 ghost use Rattle.std.proofs.Math.Option.{some};
 ghost use mathlib.Core.List.{flat_map};
+ghost use Rattle.format.specs.Inside.{Counts};
 ghost use Rattle.format.specs.Strip.{Entry, encode};
 ghost use Rattle.format.specs.Cut.{Rule, Span, cut, after, fixed_rule};
 ghost use Rattle.format.specs.Body.{listing, listing_if_any};
@@ -12,7 +13,7 @@ ghost use Rattle.util.specs.Answers.{option_of};
 
 use crate::Measured;
 use strip_ids::kind::{CONTAINER_LENGTH, OPEN_LENGTH};
-use strip_push::{begin_container, end_container};
+use strip_push::{begin_container, end_container, finish_container};
 use strip_put::{Part, Writer};
 
 // Entries whose lengths differ.
@@ -40,6 +41,9 @@ pub trait Record {
 
     // An entry that stands lies in the body.
     ghost within: { (b : List ℕ) (p n : ℕ) → rule b p ≡ some n → p + n ≤ length b };
+
+    // It is one entry of a strip, a container or a field.
+    ghost one: { (b : List ℕ) (offset : ℕ) (s : Span) → Counts 1 (entries b offset s) };
 }
 
 // Entries of one length.
@@ -61,6 +65,15 @@ pub trait Item {
         ensures upper_bound { result ≤ 256 };
 
     ghost size_nonzero: { 0 < SIZE };
+
+    ghost one: { (b : List ℕ) (offset : ℕ) (s : Span) → Counts 1 (entries b offset s) };
+}
+
+// A list that is pushed: the number of its entries, and where in the body they end.
+#[derive(Clone, Copy, PartialEq, Eq, Debug)]
+pub struct PushedList {
+    pub count: u32,
+    pub end: usize,
 }
 
 // A list that is measured: the length of its entries in a strip, their number, and where in the body they end.
@@ -71,18 +84,23 @@ pub struct MeasuredList {
     pub end: usize,
 }
 
-// The entries from a place on, at most as many as the count. Answers the place where the list ends, which is the first byte of an
-// entry that does not fit.
-pub fn push_records<R: Record>(strip: &mut Writer, body: Part, first: usize, count: u32) -> usize
+// The entries from a place on, at most as many as the count. The list ends at the first byte of an entry that does not fit.
+pub fn push_records<R: Record>(
+    strip: &mut Writer,
+    body: Part,
+    first: usize,
+    count: u32,
+) -> PushedList
     requires room { HasRoom strip.old (length (encode (flat_map (R.entries body.bytes.now body.offset) (cut R.rule body.bytes.now count first)))) }
     requires first_in_bounds { first ≤ length body.bytes.now }
     ensures wrote { Writes strip.old (encode (flat_map (R.entries body.entry.bytes.now body.entry.offset) (cut R.rule body.entry.bytes.now count first))) strip.new }
-    ensures end_value { result ≡ after first (cut R.rule body.entry.bytes.now count first) }
-    ensures end_in_bounds { (first ≤ result) × (result ≤ length body.entry.bytes.now) }
+    ensures count_value { result.count ≡ length (cut R.rule body.entry.bytes.now count first) }
+    ensures end_value { result.end ≡ after first (cut R.rule body.entry.bytes.now count first) }
+    ensures end_in_bounds { (first ≤ result.end) × (result.end ≤ length body.entry.bytes.now) }
 {
     let mut pos = first;
     let mut left = count;
-    loop {
+    let end = loop {
         if left == 0 {
             break pos;
         }
@@ -92,6 +110,10 @@ pub fn push_records<R: Record>(strip: &mut Writer, body: Part, first: usize, cou
         R::push(strip, body, pos, n);
         pos += n;
         left -= 1;
+    };
+    PushedList {
+        count: count - left,
+        end,
     }
 }
 
@@ -119,7 +141,7 @@ pub fn measure_records<R: Record>(body: Part, first: usize, count: u32) -> Measu
     list
 }
 
-// The array of such a list. Where it ends is known once its entries are pushed, so it is opened after that.
+// The array of such a list. How many entries it has and where it ends is known once they are pushed, so it is opened after that.
 pub fn push_list<R: Record>(
     strip: &mut Writer,
     id: u8,
@@ -132,15 +154,12 @@ pub fn push_list<R: Record>(
     ensures wrote { Writes strip.old (encode (listing id (R.entries body.entry.bytes.now body.entry.offset) body.entry.offset first (cut R.rule body.entry.bytes.now count first))) strip.new }
     ensures end_value { result ≡ after first (cut R.rule body.entry.bytes.now count first) }
 {
-    let open = strip.at;
+    let opening = strip.at;
     strip.at += OPEN_LENGTH;
-    let end = push_records::<R>(strip, body, first, count);
-    let close = strip.at;
-    strip.at = open;
-    begin_container(strip, id, body.range(first, end - first));
-    strip.at = close;
-    end_container(strip);
-    end
+    let list = push_records::<R>(strip, body, first, count);
+    let range = body.range(first, list.end - first);
+    finish_container(strip, opening, id, range, list.count);
+    list.end
 }
 
 // The length of such an array, under any id, and the rest as of its list.
@@ -150,7 +169,7 @@ pub fn measure_list<R: Record>(body: Part, first: usize, count: u32) -> Measured
     ensures count_value { result.count ≡ length (cut R.rule body.entry.bytes.now count first) }
     ensures end_value { result.end ≡ after first (cut R.rule body.entry.bytes.now count first) }
     ensures end_in_bounds { result.end ≤ length body.entry.bytes.now }
-    ensures length_bound { result.length ≤ 11 + 32 * length body.entry.bytes.now }
+    ensures length_bound { result.length ≤ 15 + 32 * length body.entry.bytes.now }
 {
     let list = measure_records::<R>(body, first, count);
     MeasuredList {
@@ -196,7 +215,7 @@ pub fn push_array<I: Item>(
     ensures end_value { result ≡ after first (cut (fixed_rule I.SIZE) body.entry.bytes.now count first) }
 {
     let size = count * I::SIZE;
-    begin_container(strip, id, body.range(first, size));
+    begin_container(strip, id, body.range(first, size), count as u32);
     push_items::<I>(strip, body, first, count);
     end_container(strip);
     first + size
@@ -227,7 +246,7 @@ pub fn measure_array<I: Item>(body: Part, first: usize, count: usize) -> Measure
     ensures count_value { result.count ≡ count }
     ensures end_value { result.end ≡ after first (cut (fixed_rule I.SIZE) body.entry.bytes.now count first) }
     ensures end_in_bounds { result.end ≤ length body.entry.bytes.now }
-    ensures upper_bound { result.length ≤ 11 + count * 256 }
+    ensures upper_bound { result.length ≤ 15 + count * 256 }
 {
     MeasuredList {
         length: CONTAINER_LENGTH + measure_items::<I>(body, first, count),
@@ -242,7 +261,7 @@ pub fn measure_array_if_any<I: Item>(body: Part, first: usize, count: usize) -> 
     ensures count_value { result.count ≡ count }
     ensures end_value { result.end ≡ after first (cut (fixed_rule I.SIZE) body.entry.bytes.now count first) }
     ensures end_in_bounds { result.end ≤ length body.entry.bytes.now }
-    ensures upper_bound { result.length ≤ 11 + count * 256 }
+    ensures upper_bound { result.length ≤ 15 + count * 256 }
 {
     if count == 0 {
         return MeasuredList {

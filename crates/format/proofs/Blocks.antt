@@ -12,7 +12,7 @@ use lib.Seq.{sets, length-sets}
 use lib.Dec.{ltb}
 use borrow.Author.Tests.{ltb-true, ltb-false}
 use Rattle.format.specs.Bytes.{be16_at, be64_at}
-use Rattle.format.specs.Strip.{Entry, encode, container}
+use Rattle.format.specs.Strip.{Entry, encode, direct, container}
 use Rattle.format.specs.Strip.Entry.{opens, closes, u16, u64, bytes}
 use Rattle.format.specs.Layout.{Layout, entries_at}
 use Rattle.format.specs.Cut.{standing}
@@ -25,6 +25,7 @@ use Rattle.format.specs.Trailer.BlockAnswer.{absent, found, refused}
 use Rattle.format.specs.Trailer.{BlockAnswer, lls_rows, lls_size, lls_rule, lls_entries, auth_trailer_rows, auth_trailer_size, auth_trailer_rule, auth_trailer_entries, limit, lls_of, auth_trailer_of, block_of, block_answer, block_strip}
 use Rattle.format.specs.Blocks.{BlockAt, LlsAt, AuthTrailerAt, lls_shown, auth_trailer_shown}
 use Rattle.format.specs.Host.{result_in, number_in, block_in, BlockHost}
+use Rattle.format.proofs.Openings.{openings_count}
 use Rattle.format.proofs.Laid.{widen, weaken, laid_append, laid_container}
 use Rattle.format.proofs.Rows.{Within, ids_fit, rows_first}
 use Rattle.format.proofs.Part.{written_gives_back}
@@ -165,7 +166,7 @@ module _ (fixed : ℕ) (declared : List ℕ → ℕ → ℕ) (d : List ℕ) (o :
             length_of = λ z. u.0;
             no_length = λ z. absurd (⊎_elim (λ y. omega arith) (λ y. omega arith) z);
             no_block = λ z. absurd (z i);
-            strip = λ z. rw (u.0, j, ← sized n, ← shown-is n) (b, laid n (omega arith));
+            strip = λ z. rw (u.0, j, ← sized n, ← shown-is n) (b, laid n (omega arith), openings_count (laid n (omega arith)));
             past = λ z. rw (u.0, ← sized n) (past_front (encode (entries n)) before (omega (arith, sized n)));
             left = λ z. absurd (omega arith);
             as_long = length-sets before 0 (encode (entries n));
@@ -199,7 +200,7 @@ is_block header counted d size e n = (
 
 -- The LLS data block.
 lls_shown_lem : (d : List ℕ) (o n : ℕ) → lls_entries d o n ≡ lls_shown d o n
-unfolding lls_entries container
+unfolding lls_entries container direct
 lls_shown_lem d o n =
     let a : o + 0 ≡ o = omega arith in
     let b : o + 0 + 2 ≡ o + 2 = omega arith in
@@ -214,13 +215,13 @@ lls_laid d o n h = laid_block 136 lls_rows 130 4 d o n (omega arith) refl h
 
 pub lls_host : (d : List ℕ) (o : ℕ) (before after : List ℕ) (r : ℕ)
     → r ≡ packed_block (block_answer (lls_of d o) (length before)) → after ≡ block_strip (lls_of d o) before
-    → BlockHost d o (LlsAt d) 45 (lls_shown d o) before after r
+    → BlockHost d o (LlsAt d) 49 (lls_shown d o) before after r
 lls_host d o before after r e f =
-    rw (e, f) (says 4 lls_size d o (lls_entries d o) 45 (LlsAt d) (lls_shown d o) (lls_shown_lem d o) (omega arith) (lls_strip_length d o) (omega arith) (is_block 4 _ d (lls_size d 0) (omega arith)) (lls_laid d o) before)
+    rw (e, f) (says 4 lls_size d o (lls_entries d o) 49 (LlsAt d) (lls_shown d o) (lls_shown_lem d o) (omega arith) (lls_strip_length d o) (omega arith) (is_block 4 _ d (lls_size d 0) (omega arith)) (lls_laid d o) before)
 
 -- The authentication trailer.
 trailer_shown : (d : List ℕ) (o n : ℕ) → auth_trailer_entries d o n ≡ auth_trailer_shown d o n
-unfolding auth_trailer_entries container
+unfolding auth_trailer_entries container direct
 trailer_shown d o n =
     let a : o + 0 ≡ o = omega arith in
     let b : o + 0 + 2 ≡ o + 2 = omega arith in
@@ -239,9 +240,9 @@ trailer_laid d o n h = laid_block 152 auth_trailer_rows 148 16 d o n (omega arit
 
 pub trailer_host : (d : List ℕ) (o : ℕ) (before after : List ℕ) (r : ℕ)
     → r ≡ packed_block (block_answer (auth_trailer_of d o) (length before)) → after ≡ block_strip (auth_trailer_of d o) before
-    → BlockHost d o (AuthTrailerAt d) 75 (auth_trailer_shown d o) before after r
+    → BlockHost d o (AuthTrailerAt d) 79 (auth_trailer_shown d o) before after r
 trailer_host d o before after r e f =
-    rw (e, f) (says 16 auth_trailer_size d o (auth_trailer_entries d o) 75 (AuthTrailerAt d) (auth_trailer_shown d o) (trailer_shown d o) (omega arith) (trailer_strip_length d o) (omega arith) (is_block 16 _ d (auth_trailer_size d 0) (omega arith)) (trailer_laid d o) before)
+    rw (e, f) (says 16 auth_trailer_size d o (auth_trailer_entries d o) 79 (AuthTrailerAt d) (auth_trailer_shown d o) (trailer_shown d o) (omega arith) (trailer_strip_length d o) (omega arith) (is_block 16 _ d (auth_trailer_size d 0) (omega arith)) (trailer_laid d o) before)
 
 -- What follows a block is not looked at: with other bytes after it, the same block stands there, with the same entries.
 module _ (block rest other : List ℕ) where
@@ -306,13 +307,13 @@ signed =
     0xde ∷ 0xad ∷ 0xbe ∷ 0xef ∷
     []
 
-pub worked_lls : lls_of signalled 100 ≡ found_block (opens 136 100 112 ∷ u16 128 100 102 0xfff6 ∷ u16 129 102 104 3 ∷ bytes 130 104 112 ∷ closes ∷ []) 12
-unfolding block_of standing lls_entries container
+pub worked_lls : lls_of signalled 100 ≡ found_block (opens 136 100 112 3 ∷ u16 128 100 102 0xfff6 ∷ u16 129 102 104 3 ∷ bytes 130 104 112 ∷ closes ∷ []) 12
+unfolding block_of standing lls_entries container direct
 worked_lls = refl
 
 pub worked_trailer : auth_trailer_of signed 100 ≡ found_block
-    (opens 152 100 120 ∷ u16 144 100 102 1 ∷ u16 145 102 104 20 ∷ u16 146 106 108 100 ∷ u64 147 108 116 0x10000002a ∷ bytes 148 116 120 ∷ closes ∷ []) 20
-unfolding block_of standing auth_trailer_entries container
+    (opens 152 100 120 5 ∷ u16 144 100 102 1 ∷ u16 145 102 104 20 ∷ u16 146 106 108 100 ∷ u64 147 108 116 0x10000002a ∷ bytes 148 116 120 ∷ closes ∷ []) 20
+unfolding block_of standing auth_trailer_entries container direct
 worked_trailer = refl
 
 -- A byte less, and neither is there.

@@ -13,7 +13,7 @@ use borrow.Author.Tests.{ltb-false}
 use Rattle.format.specs.Strip.{Entry, code, encode}
 use Rattle.format.specs.Cut.{Span, Rule, cut, standing, fixed_rule}
 use Rattle.format.specs.Header.{header_entries2, header_entries3, is_opaque}
-use Rattle.format.specs.Body.{Body, listing_if_any, whole, leftover, body_entries}
+use Rattle.format.specs.Body.{Body, listing_if_any, whole, leftover, own_of, rest_of, body_entries}
 use Rattle.format.specs.Body.Body.{decoded, raw}
 use Rattle.format.specs.Walks.{header_entries}
 use Rattle.format.proofs.Unique.{span, cut_none, cut_some}
@@ -78,26 +78,11 @@ whole_bound n f b c h p = cut_bound n (λ b p. some n) f b c each ((length b - p
     each : (q m : ℕ) → fixed_rule n b q ≡ some m → length (encode (f (span q m))) ≤ c * m
     each q m e = let i = inside n (λ b p. some n) b q m e in let k = mul-le-mul_left c i.enough in omega (arith, h (span q m))
 
--- An array that is opened only where it has an entry: eleven bytes more than its entries at most.
-pub array_bound : (i : ℕ) (f : Span → List Entry) (o p : ℕ) (ss : List Span) → length (encode (listing_if_any i f o p ss)) ≤ 11 + length (spread f ss)
+-- An array that is opened only where it has an entry: fifteen bytes more than its entries at most.
+pub array_bound : (i : ℕ) (f : Span → List Entry) (o p : ℕ) (ss : List Span) → length (encode (listing_if_any i f o p ss)) ≤ 15 + length (spread f ss)
 unfolding listing_if_any encode
 array_bound i f o p [] = omega arith
 array_bound i f o p (s ∷ ss) = let l = length-listing i f o p (s ∷ ss) in omega arith
-
--- A body's own entries. A raw body has none.
-abbrev pub own_of : Body → List Entry
-own_of (decoded es n) = es
-own_of raw = []
-
--- What is left of a body after them.
-abbrev pub rest_of : (rawId unparsed_id : ℕ) → Body → List ℕ → ℕ → List Entry
-rest_of r u (decoded es n) b o = leftover u b o n
-rest_of r u raw b o = leftover r b o 0
-
-pub own_and_rest : (r u : ℕ) (x : Body) (b : List ℕ) (o : ℕ) → body_entries r u x b o ≡ own_of x ++ rest_of r u x b o
-unfolding body_entries
-own_and_rest r u (decoded es n) b o = refl
-own_and_rest r u raw b o = refl
 
 rest_bound : (r u : ℕ) (x : Body) (b : List ℕ) (o : ℕ) → length (encode (rest_of r u x b o)) ≤ 10
 rest_bound r u (decoded es n) b o = leftover_bound u b o n
@@ -126,5 +111,6 @@ choice_sized false f g = g
 
 -- Entries before a body, the body's own, and what is left of it.
 pub lsa_sized : (hs : List Entry) (r u : ℕ) {m : ℕ} {x : Body} (b : List ℕ) (o : ℕ) → Sized m x → length (encode (hs ++ body_entries r u x b o)) ≤ length (encode hs) + m + 10
+unfolding body_entries
 lsa_sized hs r u {x = x} b o f =
-    rw (own_and_rest r u x b o, length_both hs (own_of x ++ rest_of r u x b o), length_both (own_of x) (rest_of r u x b o)) (omega (arith, f.bound, rest_bound r u x b o))
+    rw (length_both hs (own_of x ++ rest_of r u x b o), length_both (own_of x) (rest_of r u x b o)) (omega (arith, f.bound, rest_bound r u x b o))

@@ -5,7 +5,7 @@ use mathlib.Core.Path.{◌≡◌, refl}
 use mathlib.Core.List.{List, [], ◌∷◌, ◌++◌, map, flat_map}
 use mathlib.Core.Option.{Option, none, some}
 use lib.ListN.{replicate}
-use Rattle.format.specs.Strip.{code, encode, container}
+use Rattle.format.specs.Strip.{code, encode, direct, container}
 use Rattle.format.specs.Strip.Entry.{bytes}
 use Rattle.format.specs.Prefix.{octets, address}
 use Rattle.format.specs.Cut.{cut, after, standing}
@@ -51,15 +51,15 @@ pub record Examples : Type 0 where
   -- prefix lengths and their octets
   pub p1 : map octets (0 ∷ 1 ∷ 32 ∷ 33 ∷ 128 ∷ 129 ∷ []) ≡ some 0 ∷ some 4 ∷ some 4 ∷ some 8 ∷ some 16 ∷ none ∷ []
   -- an empty header list
-  pub p2 : answer_of (headers_of 2 [] 0) room ≡ answer 0 11 0 0
+  pub p2 : answer_of (headers_of 2 [] 0) room ≡ answer 0 15 0 0
   -- 19 bytes of header list
-  pub p3 : answer_of (headers_of 2 (zeros 19) 0) room ≡ answer 0 21 0 19
+  pub p3 : answer_of (headers_of 2 (zeros 19) 0) room ≡ answer 0 25 0 19
   -- 40 bytes of header list, both headers of type 1
-  pub p4 : answer_of (headers_of 2 (typed 1 ++ typed 1) 0) room ≡ answer 0 233 2 0
+  pub p4 : answer_of (headers_of 2 (typed 1 ++ typed 1) 0) room ≡ answer 0 245 2 0
   -- an update of 3 bytes
   pub p5 : answer_of (update_of 2 (zeros 3) 0 0) room ≡ answer 4 0 0 0
   -- an update of 4 bytes, count 7
-  pub p6 : answer_of (update_of 2 (zeros 4) 7 0) room ≡ answer 0 11 0 0
+  pub p6 : answer_of (update_of 2 (zeros 4) 7 0) room ≡ answer 0 15 0 0
   -- an update of 24 bytes, count 1: tails by the declared lengths 19, 20, 21
   pub p7 : map (λ (n : ℕ). (answer_of (update_of 2 (declaring n) 1 0) room).tail) (19 ∷ 20 ∷ 21 ∷ []) ≡ 20 ∷ 0 ∷ 20 ∷ []
   -- two records of 20 bytes, count 1
@@ -84,7 +84,7 @@ pub record Examples : Type 0 where
   pub printing : Listings
 
 pub examples : Examples
-unfolding octets headers_of update_of lsa_of unless answer_of outer header_object lsa_object listing listing_if_any whole cut after standing leftover container code encode
+unfolding octets headers_of update_of lsa_of unless answer_of outer header_object lsa_object listing listing_if_any whole cut after standing leftover container direct code encode
     header_entries2 header_entries3 lsa_entries2 lsa_entries3 lsa_tail2 lsa_tail3 body_entries body_tail body2 body3 router_lsa2 link link_tos prefix_fits external_lsa3 tlv_lsa address ranges flat_map
 examples = record {
   p1 = refl;

@@ -12,15 +12,17 @@ use mathlib.Core.Option.{Option, none as nothing, some}
 use lib.ListN.{length}
 use lib.Dec.{ltb, eqb}
 use borrow.Author.Tests.{ltb-true, eqb-true}
-use Rattle.format.specs.Strip.{Entry, Shape, content, container}
+use Rattle.format.specs.Strip.{Entry, Shape, content, direct, container}
 use Rattle.format.specs.Strip.Entry.{opens, closes, bytes}
 use Rattle.format.specs.Strip.Shape.{opening, closing, valued, numbered, ranged, costless}
 use Rattle.format.specs.Cut.{Span, Rule, cut, after, standing, fixed_rule}
 use Rattle.format.specs.Body.{listing, listing_if_any, leftover}
-use Rattle.format.proofs.Nested.{Nested}
+use Rattle.format.proofs.Nested.{Nested, any}
 use Rattle.format.proofs.Nested.Nested.{none as nested_none, field as nested_field, group as nested_group}
 use Rattle.format.specs.Laid.{start, end, Laid, among, passes, only}
 use Rattle.format.specs.Laid.Laid.{none, field, group}
+use Rattle.format.specs.Inside.{Counts}
+use Rattle.format.proofs.Inside.{counts_nested, closed}
 use Rattle.format.proofs.Unique.{span, cut_none, cut_some}
 use Rattle.format.proofs.Rules.{inside}
 
@@ -59,13 +61,23 @@ fixed_end n b (suc k) p = go (fixed_rule n b p) refl (fixed_end n b k)
 pub widen : {has : Entry → Bool} {lo hi lo' hi' : ℕ} {es : List Entry} → lo' ≤ lo → hi ≤ hi' → Laid has lo hi es → Laid has lo' hi' es
 widen h k none = none
 widen {lo' = lo'} {hi' = hi'} h k (field f t a b c l) = field {lo = lo'} {hi = hi'} f t (omega arith) b (omega arith) (widen h k l)
-widen {lo' = lo'} {hi' = hi'} h k (group i s e t a b c m l) = group {lo = lo'} {hi = hi'} i s e t (omega arith) b (omega arith) m (widen h k l)
+widen {lo' = lo'} {hi' = hi'} h k (group i s e n t q a b c m l) = group {lo = lo'} {hi = hi'} i s e n t q (omega arith) b (omega arith) m (widen h k l)
 
 -- What passes a test passes one that asks no more.
 pub weaken : {has has' : Entry → Bool} {lo hi : ℕ} {es : List Entry} → ((x : Entry) → has x ≡ true → has' x ≡ true) → Laid has lo hi es → Laid has' lo hi es
 weaken w none = none
 weaken w (field {x = x} f t a b c l) = field f (w x t) a b c (weaken w l)
-weaken w (group i s e t a b c m l) = group i s e (w (opens i s e) t) a b c (weaken w m) (weaken w l)
+weaken w (group i s e n t q a b c m l) = group i s e n (w (opens i s e n) t) q a b c (weaken w m) (weaken w l)
+
+-- What is laid out is well nested, by any test that the ids of its containers pass.
+pub nested_of : {has : Entry → Bool} {ok : ℕ → Bool} {lo hi : ℕ} {es : List Entry} → ((i s e n : ℕ) → has (opens i s e n) ≡ true → ok i ≡ true) → Laid has lo hi es → Nested ok es
+nested_of w none = nested_none
+nested_of w (field f t a b d l) = nested_field f (nested_of w l)
+nested_of w (group i s e n t q a b d k l) = nested_group i s e n (w i s e n t) (nested_of w k) (nested_of w l)
+
+-- So it has as many direct entries as are counted.
+pub laid_counts : {has : Entry → Bool} {lo hi : ℕ} {es : List Entry} → Laid has lo hi es → Counts (direct 0 es) es
+laid_counts l = counts_nested (nested_of {ok = any} (λ i s e n h. refl) l)
 
 -- A test of ids asks no more where it passes all that another does.
 pub only_more : (c c' ms r r' : List ℕ) → ((i : ℕ) → among c i ≡ true → among c' i ≡ true) → ((i : ℕ) → among r i ≡ true → among r' i ≡ true)
@@ -84,11 +96,11 @@ module _ {has : Entry → Bool} where
   pub laid_append : {lo hi : ℕ} {xs ys : List Entry} → Laid has lo hi xs → Laid has lo hi ys → Laid has lo hi (xs ++ ys)
   laid_append none m = m
   laid_append (field f t a b c l) m = field f t a b c (laid_append l m)
-  laid_append (group i s e t a b c k l) m = rw append_assoc (group i s e t a b c k (laid_append l m))
+  laid_append (group i s e n t q a b c k l) m = rw append_assoc (group i s e n t q a b c k (laid_append l m))
 
-  pub laid_container : {lo hi : ℕ} (i s e : ℕ) {inner : List Entry} → has (opens i s e) ≡ true → lo ≤ s → s ≤ e → e ≤ hi → Laid has s e inner → Laid has lo hi (container i s e inner)
+  pub laid_container : {lo hi : ℕ} (i s e : ℕ) {inner : List Entry} → has (opens i s e (direct 0 inner)) ≡ true → lo ≤ s → s ≤ e → e ≤ hi → Laid has s e inner → Laid has lo hi (container i s e inner)
   unfolding container
-  laid_container i s e t a b c l = group i s e t a b c l none
+  laid_container i s e t a b c l = group i s e _ t (closed (laid_counts l)) a b c l none
 
   -- a choice between two lists
   pub laid_cond : {lo hi : ℕ} (t : Bool) {xs ys : List Entry} → Laid has lo hi xs → Laid has lo hi ys → Laid has lo hi (cond t xs ys)
@@ -110,11 +122,11 @@ module _ {has : Entry → Bool} where
           rw (cut_some r b k p n e) (laid_append (widen (omega arith) (omega arith) (h p n e)) (widen (omega arith) (omega arith) (ih (p + n))))
 
   -- their array
-  module _ {lo hi : ℕ} (i o p : ℕ) (f : Span → List Entry) (r : Rule) (b : List ℕ) (k : ℕ) (t : (s e : ℕ) → has (opens i s e) ≡ true)
+  module _ {lo hi : ℕ} (i o p : ℕ) (f : Span → List Entry) (r : Rule) (b : List ℕ) (k : ℕ) (t : (s e n : ℕ) → has (opens i s e n) ≡ true)
       (from : lo ≤ o + p) (to : o + after p (cut r b k p) ≤ hi) (h : (q n : ℕ) → r b q ≡ some n → Laid has (o + q) (o + q + n) (f (span q n))) where
     pub laid_listing : Laid has lo hi (listing i f o p (cut r b k p))
     unfolding listing
-    laid_listing = let a = after-from (cut r b k p) p in laid_container i _ _ (t _ _) from (omega arith) to (laid_cut r b f o h k p)
+    laid_listing = let a = after-from (cut r b k p) p in laid_container i _ _ (t _ _ _) from (omega arith) to (laid_cut r b f o h k p)
 
     pub laid_listing_if : Laid has lo hi (listing_if_any i f o p (cut r b k p))
     unfolding listing_if_any
@@ -147,7 +159,7 @@ pub laid_member : {has : Entry → Bool} {lo hi : ℕ} {es : List Entry} (x : En
 laid_member x n none m = absurd (Memᴰ.not-nil m)
 laid_member {has} {lo} {hi} x n (field f t a b c l) m =
     ⊎_elim {C = Lying has lo hi x} (λ q. rw q (record { passes = t; from = a; ordered = b; to = c })) (λ m. laid_member x n l m) (Memᴰ.cases_cons m)
-laid_member {has} {lo} {hi} x n (group {inside = within} {es = es} i s e t a b c k l) m =
+laid_member {has} {lo} {hi} x n (group {inside = within} {es = es} i s e j t z a b c k l) m =
     ⊎_elim {C = Lying has lo hi x} (λ q. rw q (record { passes = t; from = a; ordered = b; to = c })) (λ m.
     ⊎_elim {C = Lying has lo hi x} (λ m. further a c (laid_member x n k m)) (λ m.
     ⊎_elim {C = Lying has lo hi x} (λ q. absurd (n q)) (λ m. laid_member x n l m) (Memᴰ.cases_cons m)) (Memᴰ.append_cases within m)) (Memᴰ.cases_cons m)
@@ -180,8 +192,6 @@ pub cond_same : (t x : Bool) → cond t x x ≡ x
 cond_same true x = refl
 cond_same false x = refl
 
--- What is laid out is well nested, by any test that the ids of its containers pass.
+-- The same by the ids of a test.
 pub laid_nested : (c ms r : List ℕ) {ok : ℕ → Bool} {lo hi : ℕ} {es : List Entry} → ((i : ℕ) → among c i ≡ true → ok i ≡ true) → Laid (only c ms r) lo hi es → Nested ok es
-laid_nested c ms r w none = nested_none
-laid_nested c ms r w (field f t a b d l) = nested_field f (laid_nested c ms r w l)
-laid_nested c ms r w (group i s e t a b d k l) = nested_group i s e (w i t) (laid_nested c ms r w k) (laid_nested c ms r w l)
+laid_nested c ms r w l = nested_of (λ i s e n h. w i h) l

@@ -15,7 +15,7 @@ use Rattle.format.specs.Strip.Entry.{bytes}
 use Rattle.format.specs.Layout.{Layout, entries_at}
 use Rattle.format.specs.Cut.{Span, Rule, cut, after, standing, fixed_rule, link_rule, prefix_rule}
 use Rattle.format.specs.Header.{header_entries2, header_entries3, identity_rows2, identity_rows3, instance_rows, opaque_rows, is_opaque}
-use Rattle.format.specs.Body.{Body, listing, listing_if_any, attached_router_rows, attached_router, whole, leftover, body_entries, body_tail}
+use Rattle.format.specs.Body.{Body, listing, listing_if_any, attached_router_rows, attached_router, whole, leftover, own_of, body_entries, body_tail}
 use Rattle.format.specs.Body.Body.{decoded, raw}
 use Rattle.format.specs.V2 as v2
 use Rattle.format.specs.V3 as v3
@@ -28,7 +28,9 @@ use Rattle.format.proofs.Unique.{span}
 use Rattle.format.proofs.Rules.{inside}
 use Rattle.format.proofs.Prefix.{fits_inside}
 use Rattle.format.proofs.Rows.{Within, ids_fit, rows_laid, rows_first}
-use Rattle.format.proofs.Laid.{cut_inside, fixed_length, fixed_end, after-from, widen, laid_append, laid_container, laid_cond, laid_listing, laid_listing_if, weaken, only_more, among_cond, cond_same}
+use Rattle.format.proofs.Nested.{Nested, any, nested_append}
+use Rattle.format.proofs.Nested.Nested.{none as nested_none, field as nested_field}
+use Rattle.format.proofs.Laid.{nested_of, cut_inside, fixed_length, fixed_end, after-from, widen, laid_append, laid_container, laid_cond, laid_listing, laid_listing_if, weaken, only_more, among_cond, cond_same}
 
 -- Headers, and the items of lists, by the containers c, the metrics ms and the ranges r that are allowed.
 module _ (c ms r : List ℕ) (b : List ℕ) (o : ℕ) where
@@ -78,7 +80,7 @@ module _ (c ms r : List ℕ) (b : List ℕ) (o : ℕ) where
     laid_link_inside v k s =
         let a = after-from (v2.link_tos_spans b s.at) (s.at + 12) in
         laid_append (rows_laid b o s.at _ _ _ 12 v2.link_rows (omega arith) refl (omega arith) (omega arith))
-        (laid_listing_if _ _ _ _ _ _ _ (λ t e. k) (omega arith) (omega arith) (laid_link-tos v))
+        (laid_listing_if _ _ _ _ _ _ _ (λ t e n. k) (omega arith) (omega arith) (laid_link-tos v))
 
     -- a link that stands has room for its TOS metrics
     laid_link2 : ids_fit ms v2.link_tos_rows ≡ true → among c 69 ≡ true → among c 96 ≡ true → (p n : ℕ) → link_rule b p ≡ some n → Laid (only c ms r) (o + p) (o + p + n) (v2.link b o (span p n))
@@ -154,13 +156,13 @@ module _ {tlvs : ℕ} {b : List ℕ} {o : ℕ} where
     is_listed =
         let a = after-from (cut (standing least declared) b k p) p in
         is (cut_inside least declared b k p h)
-        (laid_append (rows_laid b o 0 _ _ [] p t in-front met (omega arith) (omega arith)) (laid_listing i o p f (standing least declared) b k (λ s e. g) (omega arith) (omega arith) items))
+        (laid_append (rows_laid b o 0 _ _ [] p t in-front met (omega arith) (omega arith)) (laid_listing i o p f (standing least declared) b k (λ s e n. g) (omega arith) (omega arith) items))
 
     is_listed_if : let ss = cut (standing least declared) b k p in BodyLaid tlvs b o c ms (decoded (entries_at t b o 0 ++ listing_if_any i f o p ss) (after p ss)) (decoded es' (after p ss))
     is_listed_if =
         let a = after-from (cut (standing least declared) b k p) p in
         is (cut_inside least declared b k p h)
-        (laid_append (rows_laid b o 0 _ _ [] p t in-front met (omega arith) (omega arith)) (laid_listing_if i o p f (standing least declared) b k (λ s e. g) (omega arith) (omega arith) items))
+        (laid_append (rows_laid b o 0 _ _ [] p t in-front met (omega arith) (omega arith)) (laid_listing_if i o p f (standing least declared) b k (λ s e n. g) (omega arith) (omega arith) items))
 
 -- The bodies of version 2, at the places o and q.
 module _ (b : List ℕ) (o q : ℕ) where
@@ -311,6 +313,19 @@ after_front {front = front} l a b (unparsed_left es s e m f g t) =
     unparsed_left (front ++ es) s (ap (λ (x : List Entry). front ++ x) e ∙ sym (append_assoc front es _)) (laid_append (widen (omega arith) f l) (widen a (omega arith) m)) (omega arith) g t
 after_front {front = front} l a b (raw-or-tlvs es i s k e m f g t) =
     raw-or-tlvs (front ++ es) i s k (ap (λ (x : List Entry). front ++ x) e ∙ sym (append_assoc front es _)) (laid_append (widen (omega arith) f l) (widen a (omega arith) m)) (omega arith) g t
+
+-- The own entries of a body are well nested.
+nested_body : {tlvs : ℕ} {b : List ℕ} {o : ℕ} {c ms : List ℕ} {x x' : Body} → BodyLaid tlvs b o c ms x x' → Nested any (own_of x)
+nested_body (is h l) = nested_of (λ i s e n t. refl) l
+nested_body (is_tlvs s h k l) = nested_append any (nested_of (λ i s e n t. refl) l) (nested_field refl nested_none)
+nested_body is_raw = nested_none
+
+module _ (d : List ℕ) (o : ℕ) where
+  pub nested_own2 : Nested any (own_of (v2.body_of2 d o))
+  nested_own2 = nested_body (laid_body2 (drop 20 d) (o + 20) 20 (get_or d 3 0) (get_or d 4 0))
+
+  pub nested_own3 : Nested any (own_of (v3.body_of3 d o))
+  nested_own3 = nested_body (laid_body3 (drop 20 d) (o + 20) 20 (be16_at d 2 % 8192))
 
 -- How the entries of any LSA end, whatever its length; and what they are laid out in.
 pub lsa_ends : (v : ℕ) (d : List ℕ) (o : ℕ) → Ending (containers v d) (metrics v d) (raw_or_tlvs v) (unparsed v) o (o + 20 + length (drop 20 d)) (lsa_entries v d o) (lsa_tail v d)

@@ -34,7 +34,7 @@ unfolding outer
 laid_outer ms v f d o least declared k p h items =
     let a = after-from (cut (standing least declared) d k p) p in
     let b = cut_inside least declared d k p h in
-    laid_append (laid_listing 114 o p f (standing least declared) d k (λ s e. refl) (omega arith) (omega arith) items)
+    laid_append (laid_listing 114 o p f (standing least declared) d k (λ s e n. refl) (omega arith) (omega arith) items)
     (laid_leftover (unparsed_id v) d o (after p (cut (standing least declared) d k p)) (λ s e. refl) (omega arith) (omega arith))
 
 -- A header list has no kind 9 entry.

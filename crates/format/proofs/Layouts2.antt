@@ -4,7 +4,7 @@
 use Prim.Native.Nat.{ℕ, ◌+◌}
 use mathlib.Core.Path.{◌≡◌, refl}
 use mathlib.Core.List.{List, [], ◌∷◌, flat_map}
-use Rattle.format.specs.Strip.{Entry, container}
+use Rattle.format.specs.Strip.{Entry, direct, container}
 use Rattle.format.specs.Strip.Entry.{opens, closes, u8, u16, u32, ip4, bytes, unreachable}
 use Rattle.format.specs.Cut.{cut, after, standing}
 use Rattle.format.specs.Header.{header_entries2}
@@ -36,17 +36,17 @@ bodies =
     u8 13 1020 1021 0 ∷
     u8 14 1020 1021 1 ∷
     u16 15 1022 1024 0x0002 ∷
-    opens 16 1024 1056 ∷
-    opens 96 1024 1036 ∷ ip4 64 1024 1028 0x191a1b1c ∷ ip4 65 1028 1032 0x1d1e1f20 ∷ u8 66 1032 1033 0x21 ∷ u8 67 1033 1034 0x00 ∷ u16 68 1034 1036 0x2324 ∷ closes ∷
-    opens 96 1036 1056 ∷
+    opens 16 1024 1056 2 ∷
+    opens 96 1024 1036 5 ∷ ip4 64 1024 1028 0x191a1b1c ∷ ip4 65 1028 1032 0x1d1e1f20 ∷ u8 66 1032 1033 0x21 ∷ u8 67 1033 1034 0x00 ∷ u16 68 1034 1036 0x2324 ∷ closes ∷
+    opens 96 1036 1056 6 ∷
     ip4 64 1036 1040 0x25262728 ∷
     ip4 65 1040 1044 0x292a2b2c ∷
     u8 66 1044 1045 0x2d ∷
     u8 67 1045 1046 0x02 ∷
     u16 68 1046 1048 0x2f30 ∷
-    opens 69 1048 1056 ∷
-    opens 97 1048 1052 ∷ u8 81 1048 1049 0x31 ∷ u32 82 1050 1052 0x3334 ∷ closes ∷
-    opens 97 1052 1056 ∷ u8 81 1052 1053 0xb5 ∷ u32 82 1054 1056 0x3738 ∷ closes ∷
+    opens 69 1048 1056 2 ∷
+    opens 97 1048 1052 2 ∷ u8 81 1048 1049 0x31 ∷ u32 82 1050 1052 0x3334 ∷ closes ∷
+    opens 97 1052 1056 2 ∷ u8 81 1052 1053 0xb5 ∷ u32 82 1054 1056 0x3738 ∷ closes ∷
     closes ∷
     closes ∷
     closes ∷
@@ -55,16 +55,16 @@ bodies =
     -- RFC 2328 A.4.3: Network Mask, two Attached Routers; 2 bytes more.
     lsa 2 14 [] (
     ip4 17 1020 1024 0x15161718 ∷
-    opens 18 1024 1032 ∷ ip4 98 1024 1028 0x191a1b1c ∷ ip4 98 1028 1032 0x1d1e1f20 ∷ closes ∷
+    opens 18 1024 1032 2 ∷ ip4 98 1024 1028 0x191a1b1c ∷ ip4 98 1028 1032 0x1d1e1f20 ∷ closes ∷
     bytes 25 1032 1034 ∷
     []) 2 ∷
     -- RFC 2328 A.4.4: Network Mask, metric; two TOS metrics of 24 bits; 1 byte more.
     lsa 3 17 (but 32 0xa1 ∷ []) (
     ip4 17 1020 1024 0x15161718 ∷
     u32 19 1025 1028 0x1a1b1c ∷
-    opens 20 1028 1036 ∷
-    opens 97 1028 1032 ∷ u8 81 1028 1029 0x1d ∷ u32 82 1029 1032 0x1e1f20 ∷ closes ∷
-    opens 97 1032 1036 ∷ u8 81 1032 1033 0xa1 ∷ u32 82 1033 1036 0x222324 ∷ closes ∷
+    opens 20 1028 1036 2 ∷
+    opens 97 1028 1032 2 ∷ u8 81 1028 1029 0x1d ∷ u32 82 1029 1032 0x1e1f20 ∷ closes ∷
+    opens 97 1032 1036 2 ∷ u8 81 1032 1033 0xa1 ∷ u32 82 1033 1036 0x222324 ∷ closes ∷
     closes ∷
     bytes 25 1036 1037 ∷
     []) 1 ∷
@@ -82,9 +82,9 @@ bodies =
     u32 19 1025 1028 0x1a1b1c ∷
     ip4 21 1028 1032 0x1d1e1f20 ∷
     u32 22 1032 1036 0x21222324 ∷
-    opens 20 1036 1060 ∷
-    opens 97 1036 1048 ∷ u8 80 1036 1037 1 ∷ u8 81 1036 1037 0x25 ∷ u32 82 1037 1040 0x262728 ∷ ip4 83 1040 1044 0x292a2b2c ∷ u32 84 1044 1048 0x2d2e2f30 ∷ closes ∷
-    opens 97 1048 1060 ∷ u8 80 1048 1049 0 ∷ u8 81 1048 1049 0x31 ∷ u32 82 1049 1052 0x323334 ∷ ip4 83 1052 1056 0x35363738 ∷ u32 84 1056 1060 0x393a3b3c ∷ closes ∷
+    opens 20 1036 1060 2 ∷
+    opens 97 1036 1048 5 ∷ u8 80 1036 1037 1 ∷ u8 81 1036 1037 0x25 ∷ u32 82 1037 1040 0x262728 ∷ ip4 83 1040 1044 0x292a2b2c ∷ u32 84 1044 1048 0x2d2e2f30 ∷ closes ∷
+    opens 97 1048 1060 5 ∷ u8 80 1048 1049 0 ∷ u8 81 1048 1049 0x31 ∷ u32 82 1049 1052 0x323334 ∷ ip4 83 1052 1056 0x35363738 ∷ u32 84 1056 1060 0x393a3b3c ∷ closes ∷
     closes ∷
     bytes 25 1060 1063 ∷
     []) 3 ∷
@@ -104,10 +104,10 @@ bodies =
     []) (
     ip4 17 1020 1024 0x15161718 ∷
     unreachable 19 1025 1028 ∷
-    opens 20 1028 1040 ∷
-    opens 97 1028 1032 ∷ u8 81 1028 1029 0x1d ∷ unreachable 82 1029 1032 ∷ closes ∷
-    opens 97 1032 1036 ∷ u8 81 1032 1033 0x21 ∷ u32 82 1033 1036 0xfffffe ∷ closes ∷
-    opens 97 1036 1040 ∷ u8 81 1036 1037 0x25 ∷ unreachable 82 1037 1040 ∷ closes ∷
+    opens 20 1028 1040 3 ∷
+    opens 97 1028 1032 2 ∷ u8 81 1028 1029 0x1d ∷ unreachable 82 1029 1032 ∷ closes ∷
+    opens 97 1032 1036 2 ∷ u8 81 1032 1033 0x21 ∷ u32 82 1033 1036 0xfffffe ∷ closes ∷
+    opens 97 1036 1040 2 ∷ u8 81 1036 1037 0x25 ∷ unreachable 82 1037 1040 ∷ closes ∷
     closes ∷
     []) 0 ∷
     -- An external's own and that of its TOS; a tag of the same number is a number.
@@ -120,8 +120,8 @@ bodies =
     unreachable 19 1025 1028 ∷
     ip4 21 1028 1032 0x1d1e1f20 ∷
     u32 22 1032 1036 0xffffff ∷
-    opens 20 1036 1048 ∷
-    opens 97 1036 1048 ∷ u8 80 1036 1037 0 ∷ u8 81 1036 1037 0x25 ∷ unreachable 82 1037 1040 ∷ ip4 83 1040 1044 0x292a2b2c ∷ u32 84 1044 1048 0x2d2e2f30 ∷ closes ∷
+    opens 20 1036 1048 1 ∷
+    opens 97 1036 1048 5 ∷ u8 80 1036 1037 0 ∷ u8 81 1036 1037 0x25 ∷ unreachable 82 1037 1040 ∷ ip4 83 1040 1044 0x292a2b2c ∷ u32 84 1044 1048 0x2d2e2f30 ∷ closes ∷
     closes ∷
     []) 0 ∷
     -- The metrics of a link have 16 bits: all ones are a number.
@@ -132,9 +132,9 @@ bodies =
     u8 13 1020 1021 0 ∷
     u8 14 1020 1021 1 ∷
     u16 15 1022 1024 0x0001 ∷
-    opens 16 1024 1040 ∷
-    opens 96 1024 1040 ∷ ip4 64 1024 1028 0x191a1b1c ∷ ip4 65 1028 1032 0x1d1e1f20 ∷ u8 66 1032 1033 0x21 ∷ u8 67 1033 1034 0x01 ∷ u16 68 1034 1036 0xffff ∷
-    opens 69 1036 1040 ∷ opens 97 1036 1040 ∷ u8 81 1036 1037 0x25 ∷ u32 82 1038 1040 0xffff ∷ closes ∷ closes ∷
+    opens 16 1024 1040 1 ∷
+    opens 96 1024 1040 6 ∷ ip4 64 1024 1028 0x191a1b1c ∷ ip4 65 1028 1032 0x1d1e1f20 ∷ u8 66 1032 1033 0x21 ∷ u8 67 1033 1034 0x01 ∷ u16 68 1034 1036 0xffff ∷
+    opens 69 1036 1040 1 ∷ opens 97 1036 1040 2 ∷ u8 81 1036 1037 0x25 ∷ u32 82 1038 1040 0xffff ∷ closes ∷ closes ∷
     closes ∷
     closes ∷
     []) 0 ∷
@@ -189,7 +189,7 @@ pub record Layouts2 : Type 0 where
   pub opaque_ids : flat_map (λ (t : ℕ). values 8 (lsa_entries 2 (given t 0 (but 4 1 ∷ [])) 1000)) (up_to 13) ≡ 1 ∷ 1 ∷ 1 ∷ []
 
 pub layouts2 : Layouts2
-unfolding lsa_of unless v2.lsa_entries2 v2.lsa_tail2 header_entries2 body_entries body_tail leftover container listing listing_if_any whole cut after standing attached_router
+unfolding lsa_of unless v2.lsa_entries2 v2.lsa_tail2 header_entries2 body_entries body_tail leftover container direct listing listing_if_any whole cut after standing attached_router
     v2.body2 v2.router_lsa2 v2.link v2.link_tos v2.network_lsa2 v2.summary_lsa v2.summary_tos v2.external_lsa2 v2.external_tos v2.opaque_lsa flat_map
 layouts2 = record {
   all_bodies = refl;

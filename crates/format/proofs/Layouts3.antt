@@ -4,7 +4,7 @@
 use Prim.Native.Nat.{ℕ, ◌+◌, ◌/◌, ◌%◌}
 use mathlib.Core.Path.{◌≡◌, refl}
 use mathlib.Core.List.{List, [], ◌∷◌, flat_map}
-use Rattle.format.specs.Strip.{Entry, container}
+use Rattle.format.specs.Strip.{Entry, direct, container}
 use Rattle.format.specs.Strip.Entry.{opens, closes, u8, u16, u32, ip4, ip6, bytes, unreachable}
 use Rattle.format.specs.Prefix.{octets, address}
 use Rattle.format.specs.Cut.{cut, after, standing}
@@ -33,9 +33,9 @@ bodies =
     u8 10 1020 1021 0 ∷
     u8 11 1020 1021 1 ∷
     u32 14 1021 1024 0x161718 ∷
-    opens 15 1024 1056 ∷
-    opens 96 1024 1040 ∷ u8 64 1024 1025 0x19 ∷ u16 65 1026 1028 0x1b1c ∷ u32 66 1028 1032 0x1d1e1f20 ∷ u32 67 1032 1036 0x21222324 ∷ ip4 68 1036 1040 0x25262728 ∷ closes ∷
-    opens 96 1040 1056 ∷ u8 64 1040 1041 0x29 ∷ u16 65 1042 1044 0x2b2c ∷ u32 66 1044 1048 0x2d2e2f30 ∷ u32 67 1048 1052 0x31323334 ∷ ip4 68 1052 1056 0x35363738 ∷ closes ∷
+    opens 15 1024 1056 2 ∷
+    opens 96 1024 1040 5 ∷ u8 64 1024 1025 0x19 ∷ u16 65 1026 1028 0x1b1c ∷ u32 66 1028 1032 0x1d1e1f20 ∷ u32 67 1032 1036 0x21222324 ∷ ip4 68 1036 1040 0x25262728 ∷ closes ∷
+    opens 96 1040 1056 5 ∷ u8 64 1040 1041 0x29 ∷ u16 65 1042 1044 0x2b2c ∷ u32 66 1044 1048 0x2d2e2f30 ∷ u32 67 1048 1052 0x31323334 ∷ ip4 68 1052 1056 0x35363738 ∷ closes ∷
     closes ∷
     bytes 33 1056 1061 ∷
     []) 5 ∷
@@ -47,13 +47,13 @@ bodies =
     u8 10 1020 1021 0 ∷
     u8 11 1020 1021 1 ∷
     u32 14 1021 1024 0x161718 ∷
-    opens 15 1024 1024 ∷ closes ∷
+    opens 15 1024 1024 0 ∷ closes ∷
     bytes 33 1024 1026 ∷
     []) 2 ∷
     -- RFC 5340 A.4.4: Options, two Attached Routers; 2 bytes more.
     lsa 0x2002 14 [] (
     u32 14 1021 1024 0x161718 ∷
-    opens 16 1024 1032 ∷ ip4 98 1024 1028 0x191a1b1c ∷ ip4 98 1028 1032 0x1d1e1f20 ∷ closes ∷
+    opens 16 1024 1032 2 ∷ ip4 98 1024 1028 0x191a1b1c ∷ ip4 98 1028 1032 0x1d1e1f20 ∷ closes ∷
     bytes 33 1032 1034 ∷
     []) 2 ∷
     -- RFC 5340 A.4.5: Metric, PrefixLength 33, PrefixOptions, 8 octets of prefix; 3 bytes more.
@@ -147,9 +147,9 @@ bodies =
     u32 14 1021 1024 0x161718 ∷
     ip6 27 1024 1040 0x191a1b1c1d1e1f20 0x2122232425262728 ∷
     u32 28 1040 1044 0x00000002 ∷
-    opens 29 1044 1076 ∷
-    opens 97 1044 1064 ∷ u8 80 1044 1045 0x80 ∷ u8 81 1045 1046 0x2e ∷ ip6 83 1048 1064 0x3132333435363738 0x393a3b3c3d3e3f40 ∷ closes ∷
-    opens 97 1064 1076 ∷ u8 80 1064 1065 0x21 ∷ u8 81 1065 1066 0x42 ∷ ip6 83 1068 1076 0x45464748494a4b4c 0x0000000000000000 ∷ closes ∷
+    opens 29 1044 1076 2 ∷
+    opens 97 1044 1064 3 ∷ u8 80 1044 1045 0x80 ∷ u8 81 1045 1046 0x2e ∷ ip6 83 1048 1064 0x3132333435363738 0x393a3b3c3d3e3f40 ∷ closes ∷
+    opens 97 1064 1076 3 ∷ u8 80 1064 1065 0x21 ∷ u8 81 1065 1066 0x42 ∷ ip6 83 1068 1076 0x45464748494a4b4c 0x0000000000000000 ∷ closes ∷
     closes ∷
     bytes 33 1076 1079 ∷
     []) 3 ∷
@@ -161,9 +161,9 @@ bodies =
     u16 22 1022 1024 0x1718 ∷
     u32 25 1024 1028 0x191a1b1c ∷
     ip4 30 1028 1032 0x1d1e1f20 ∷
-    opens 29 1032 1048 ∷
-    opens 97 1032 1044 ∷ u8 80 1032 1033 0x21 ∷ u8 81 1033 1034 0x22 ∷ u16 82 1034 1036 0x2324 ∷ ip6 83 1036 1044 0x25262728292a2b2c 0x0000000000000000 ∷ closes ∷
-    opens 97 1044 1048 ∷ u8 80 1044 1045 0x00 ∷ u8 81 1045 1046 0x2e ∷ u16 82 1046 1048 0x2f30 ∷ ip6 83 1048 1048 0x0000000000000000 0x0000000000000000 ∷ closes ∷
+    opens 29 1032 1048 2 ∷
+    opens 97 1032 1044 4 ∷ u8 80 1032 1033 0x21 ∷ u8 81 1033 1034 0x22 ∷ u16 82 1034 1036 0x2324 ∷ ip6 83 1036 1044 0x25262728292a2b2c 0x0000000000000000 ∷ closes ∷
+    opens 97 1044 1048 4 ∷ u8 80 1044 1045 0x00 ∷ u8 81 1045 1046 0x2e ∷ u16 82 1046 1048 0x2f30 ∷ ip6 83 1048 1048 0x0000000000000000 0x0000000000000000 ∷ closes ∷
     closes ∷
     bytes 33 1048 1054 ∷
     []) 6 ∷
@@ -267,7 +267,7 @@ pub record Layouts3 : Type 0 where
   pub scopes : flat_map (λ (t : ℕ). range_ids (lsa_entries 3 (given t 1 []) 1000)) (0x000c ∷ 0x200c ∷ 0x400c ∷ 0x800c ∷ 0xe00c ∷ 0x100c ∷ []) ≡ 32 ∷ 32 ∷ 32 ∷ 32 ∷ 32 ∷ 31 ∷ []
 
 pub layouts3 : Layouts3
-unfolding lsa_of unless v3.lsa_entries3 v3.lsa_tail3 header_entries3 body_entries body_tail leftover container listing whole cut after standing attached_router octets address
+unfolding lsa_of unless v3.lsa_entries3 v3.lsa_tail3 header_entries3 body_entries body_tail leftover container direct listing whole cut after standing attached_router octets address
     v3.body3 v3.link v3.router_lsa3 v3.network_lsa3 v3.prefix_fits v3.inter_area_prefix_lsa v3.inter_area_router_lsa v3.external_lsa3 v3.prefix v3.link_lsa v3.intra_area_prefix_lsa v3.tlv_lsa flat_map
 layouts3 = record {
   all_bodies = refl;

@@ -59,12 +59,12 @@ at_most true k = omega arith
 at_most false k = omega arith
 
 -- The length of a link of version 2: its own fields, and the array of its TOS metrics.
-pub length-link : (b : List ℕ) (o : ℕ) (s : Span) → length (encode (v2.link b o s)) ≡ 73 + length (encode (listing_if_any 69 (v2.link_tos b o) o (s.at + 12) (v2.link_tos_spans b s.at)))
+pub length-link : (b : List ℕ) (o : ℕ) (s : Span) → length (encode (v2.link b o s)) ≡ 77 + length (encode (listing_if_any 69 (v2.link_tos b o) o (s.at + 12) (v2.link_tos_spans b s.at)))
 unfolding v2.link encode code
 length-link b o s = length-container 96 (o + s.at) (o + s.at + s.len) (v2.link_fields b o s.at ++ listing_if_any 69 (v2.link_tos b o) o (s.at + 12) (v2.link_tos_spans b s.at)) ∙ omega arith
 
 -- A prefix of a list, with a metric or without.
-pub length-prefix : (m : Bool) (b : List ℕ) (o : ℕ) (s : Span) → length (encode (v3.prefix m b o s)) ≡ 59 + cond m 12 0
+pub length-prefix : (m : Bool) (b : List ℕ) (o : ℕ) (s : Span) → length (encode (v3.prefix m b o s)) ≡ 63 + cond m 12 0
 unfolding v3.prefix container encode code
 length-prefix true b o s = refl
 length-prefix false b o s = refl
@@ -74,19 +74,19 @@ pub length_optional : (b : List ℕ) (o n : ℕ) → length (encode (v3.external
 unfolding code
 length_optional b o n = rw (length_both, length_both, length_part (v3.has_forwarding b), length_part (v3.has_tag b), length_part (v3.has_reference b))
 
--- The object of a header, and of an LSA: eleven bytes more than its entries.
+-- The object of a header, and of an LSA: fifteen bytes more than its entries.
 module _ (v : ℕ) (d : List ℕ) (o p n : ℕ) where
-  pub length_header_object : length (encode (header_object v d o (span p n))) ≡ 11 + length (encode (header_entries v (part d p n) (o + p)))
+  pub length_header_object : length (encode (header_object v d o (span p n))) ≡ 15 + length (encode (header_entries v (part d p n) (o + p)))
   unfolding header_object
   length_header_object = length-container 112 (o + p) (o + p + n) (header_entries v (part d p n) (o + p))
 
-  pub length_lsa_object : length (encode (lsa_object v d o (span p n))) ≡ 11 + length (encode (lsa_entries v (part d p n) (o + p)))
+  pub length_lsa_object : length (encode (lsa_object v d o (span p n))) ≡ 15 + length (encode (lsa_entries v (part d p n) (o + p)))
   unfolding lsa_object
   length_lsa_object = length-container 113 (o + p) (o + p + n) (lsa_entries v (part d p n) (o + p))
 
 -- The outer array of a list, with what is left after it.
 pub length-outer : (v : ℕ) (f : Span → List Entry) (d : List ℕ) (o p : ℕ) (ss : List Span)
-    → length (encode (outer v f d o p ss)) ≡ 11 + length (encode (flat_map f ss)) + length (encode (leftover (unparsed_id v) d o (after p ss)))
+    → length (encode (outer v f d o p ss)) ≡ 15 + length (encode (flat_map f ss)) + length (encode (leftover (unparsed_id v) d o (after p ss)))
 unfolding outer spread
 length-outer v f d o p ss =
     length_both (listing 114 f o p ss) (leftover (unparsed_id v) d o (after p ss))

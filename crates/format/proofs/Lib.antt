@@ -29,10 +29,13 @@ pub mod Layouts3
 pub mod Listings
 pub mod Examples
 pub mod Laid
+pub mod Openings
 pub mod LaidLsa
 pub mod Nested
+pub mod Inside
 pub mod Rows
 pub mod NestedLsa
+pub mod Direct
 pub mod Unreachable
 pub mod Shown
 pub mod Walks

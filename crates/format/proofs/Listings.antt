@@ -5,7 +5,7 @@ use Prim.Native.String.{String}
 use mathlib.Core.Path.{◌≡◌, refl}
 use mathlib.Core.List.{List, [], ◌∷◌, map, flat_map}
 use lib.ListN.{replicate}
-use Rattle.format.specs.Strip.{code, encode, container}
+use Rattle.format.specs.Strip.{code, encode, direct, container}
 use Rattle.format.specs.Strip.Entry.{opens, closes, u8, u16, u32, ip4, ip6, bytes, unreachable, u64}
 use Rattle.format.specs.Prefix.{octets, address}
 use Rattle.format.specs.Cut.{cut, standing, after}
@@ -70,9 +70,9 @@ printing =
     0x12 ∷ 0x34 ∷ 0x00 ∷ 0x18 ∷
     0xff ∷
     []) (
-    "ok 1 1 132" ∷
-    "open 114 0 20" ∷
-    "open 112 0 20" ∷
+    "ok 1 1 140" ∷
+    "open 114 0 20 1" ∷
+    "open 112 0 20 8" ∷
     "u16 0 0 2 1" ∷
     "u8 1 2 3 2" ∷
     "u8 2 3 4 1" ∷
@@ -98,7 +98,7 @@ printing =
     0x08 ∷ 0x00 ∷ 0x00 ∷ 0x0a ∷
     0x10 ∷ 0xff ∷ 0xff ∷ 0xff ∷
     []) (
-    "ok 1 0 203" ∷
+    "ok 1 0 215" ∷
     "u16 0 0 2 1" ∷
     "u8 1 2 3 2" ∷
     "u8 2 3 4 3" ∷
@@ -109,12 +109,12 @@ printing =
     "u16 7 18 20 36" ∷
     "ip4 17 20 24 255.255.0.0" ∷
     "never 19 25 28" ∷
-    "open 20 28 36" ∷
-    "open 97 28 32" ∷
+    "open 20 28 36 2" ∷
+    "open 97 28 32 2" ∷
     "u8 81 28 29 8" ∷
     "u32 82 29 32 10" ∷
     "close" ∷
-    "open 97 32 36" ∷
+    "open 97 32 36 2" ∷
     "u8 81 32 33 16" ∷
     "never 82 33 36" ∷
     "close" ∷
@@ -122,9 +122,9 @@ printing =
     []) ∷
     -- The update of version 3: 2 records, of which the first is cut into prefixes, and a tail of 3 bytes.
     prints (0x03 ∷ 0x01 ∷ update3) (
-    "ok 2 3 469" ∷
-    "open 114 4 96" ∷
-    "open 113 4 68" ∷
+    "ok 2 3 497" ∷
+    "open 114 4 96 2" ∷
+    "open 113 4 68 12" ∷
     "u16 0 4 6 1" ∷
     "u16 1 6 8 8201" ∷
     "u32 2 8 12 7" ∷
@@ -136,14 +136,14 @@ printing =
     "u16 22 26 28 8193" ∷
     "u32 25 28 32 0" ∷
     "ip4 30 32 36 10.0.0.2" ∷
-    "open 29 36 68" ∷
-    "open 97 36 48" ∷
+    "open 29 36 68 2" ∷
+    "open 97 36 48 4" ∷
     "u8 80 36 37 64" ∷
     "u8 81 37 38 0" ∷
     "u16 82 38 40 16" ∷
     "ip6 83 40 48 20010db8000100020000000000000000" ∷
     "close" ∷
-    "open 97 48 68" ∷
+    "open 97 48 68 4" ∷
     "u8 80 48 49 128" ∷
     "u8 81 49 50 2" ∷
     "u16 82 50 52 1000" ∷
@@ -151,7 +151,7 @@ printing =
     "close" ∷
     "close" ∷
     "close" ∷
-    "open 113 68 96" ∷
+    "open 113 68 96 9" ∷
     "u16 0 68 70 3600" ∷
     "u16 1 70 72 8194" ∷
     "u32 2 72 76 5" ∷
@@ -160,7 +160,7 @@ printing =
     "u16 5 84 86 17185" ∷
     "u16 6 86 88 28" ∷
     "u32 14 89 92 51" ∷
-    "open 16 92 96" ∷
+    "open 16 92 96 1" ∷
     "ip4 98 92 96 10.0.0.3" ∷
     "close" ∷
     "close" ∷
@@ -197,8 +197,8 @@ pub record Listings : Type 0 where
   -- The same update at the largest offset.
   pub update_placed : update_of 3 update3 5 4294901760
       ≡ accepted (
-      opens 114 4294901764 4294901856 ∷
-      opens 113 4294901764 4294901828 ∷
+      opens 114 4294901764 4294901856 2 ∷
+      opens 113 4294901764 4294901828 12 ∷
       u16 0 4294901764 4294901766 0x0001 ∷
       u16 1 4294901766 4294901768 0x2009 ∷
       u32 2 4294901768 4294901772 0x00000007 ∷
@@ -210,14 +210,14 @@ pub record Listings : Type 0 where
       u16 22 4294901786 4294901788 0x2001 ∷
       u32 25 4294901788 4294901792 0x00000000 ∷
       ip4 30 4294901792 4294901796 0x0a000002 ∷
-      opens 29 4294901796 4294901828 ∷
-      opens 97 4294901796 4294901808 ∷
+      opens 29 4294901796 4294901828 2 ∷
+      opens 97 4294901796 4294901808 4 ∷
       u8 80 4294901796 4294901797 0x40 ∷
       u8 81 4294901797 4294901798 0x00 ∷
       u16 82 4294901798 4294901800 0x0010 ∷
       ip6 83 4294901800 4294901808 0x20010db800010002 0x0000000000000000 ∷
       closes ∷
-      opens 97 4294901808 4294901828 ∷
+      opens 97 4294901808 4294901828 4 ∷
       u8 80 4294901808 4294901809 0x80 ∷
       u8 81 4294901809 4294901810 0x02 ∷
       u16 82 4294901810 4294901812 0x03e8 ∷
@@ -225,7 +225,7 @@ pub record Listings : Type 0 where
       closes ∷
       closes ∷
       closes ∷
-      opens 113 4294901828 4294901856 ∷
+      opens 113 4294901828 4294901856 9 ∷
       u16 0 4294901828 4294901830 0x0e10 ∷
       u16 1 4294901830 4294901832 0x2002 ∷
       u32 2 4294901832 4294901836 0x00000005 ∷
@@ -234,7 +234,7 @@ pub record Listings : Type 0 where
       u16 5 4294901844 4294901846 0x4321 ∷
       u16 6 4294901846 4294901848 0x001c ∷
       u32 14 4294901849 4294901852 0x000033 ∷
-      opens 16 4294901852 4294901856 ∷ ip4 98 4294901852 4294901856 0x0a000003 ∷ closes ∷
+      opens 16 4294901852 4294901856 1 ∷ ip4 98 4294901852 4294901856 0x0a000003 ∷ closes ∷
       closes ∷
       closes ∷
       bytes 33 4294901856 4294901859 ∷
@@ -243,11 +243,11 @@ pub record Listings : Type 0 where
   -- more.
   pub headers_2 : headers_of 2 (counted 43 (but 3 0x01 ∷ but 23 0x09 ∷ [])) 1000
       ≡ accepted (
-      opens 114 1000 1040 ∷
-      opens 112 1000 1020 ∷
+      opens 114 1000 1040 2 ∷
+      opens 112 1000 1020 8 ∷
       header2 0x01 0x05060708 (
       closes ∷
-      opens 112 1020 1040 ∷
+      opens 112 1020 1040 10 ∷
       u16 0 1020 1022 0x1516 ∷
       u8 1 1022 1023 0x17 ∷
       u8 2 1023 1024 0x09 ∷
@@ -264,11 +264,11 @@ pub record Listings : Type 0 where
       [])) 2 3
   pub headers_3 : headers_of 3 (counted 43 []) 1000
       ≡ accepted (
-      opens 114 1000 1040 ∷
-      opens 112 1000 1020 ∷
+      opens 114 1000 1040 2 ∷
+      opens 112 1000 1020 7 ∷
       header3 0x0304 (
       closes ∷
-      opens 112 1020 1040 ∷
+      opens 112 1020 1040 7 ∷
       u16 0 1020 1022 0x1516 ∷
       u16 1 1022 1024 0x1718 ∷
       u32 2 1024 1028 0x191a1b1c ∷
@@ -282,10 +282,10 @@ pub record Listings : Type 0 where
       [])) 2 3
   -- Both forms of the first line: records, tail and length in this order; a number with the length needed.
   pub ok_line : first_line (answer 0 30 10 20) ≡ lines ("ok 10 20 30" ∷ [])
-  pub refused_line : first_line (answer 5 1162790 0 0) ≡ lines ("refused 5 1162790" ∷ [])
+  pub refused_line : first_line (answer 5 1228294 0 0) ≡ lines ("refused 5 1228294" ∷ [])
   -- A line of each kind.
   pub kind_lines : flat_map line (
-      opens 114 0 4294967295 ∷
+      opens 114 0 4294967295 65536 ∷
       closes ∷
       u8 1 2 3 255 ∷
       u16 4 5 7 65535 ∷
@@ -297,7 +297,7 @@ pub record Listings : Type 0 where
       u64 147 8 16 18446744073709551615 ∷
       [])
       ≡ lines (
-      "open 114 0 4294967295" ∷
+      "open 114 0 4294967295 65536" ∷
       "close" ∷
       "u8 1 2 3 255" ∷
       "u16 4 5 7 65535" ∷
@@ -310,7 +310,7 @@ pub record Listings : Type 0 where
       [])
 
 pub listings : Listings
-unfolding printed first_line line digits hex program_of walk_of named_of headers_of update_of lsa_of answer_of unless outer listing listing_if_any leftover header_object lsa_object container encode code whole cut standing after
+unfolding printed first_line line digits hex program_of walk_of named_of headers_of update_of lsa_of answer_of unless outer listing listing_if_any leftover header_object lsa_object container direct encode code whole cut standing after
     header_entries2 header_entries3 attached_router octets address body_entries body_tail v2.lsa_entries2 v2.lsa_tail2 v2.body2 v2.opaque_lsa v2.summary_lsa v2.summary_tos
     v3.lsa_entries3 v3.body3 v3.network_lsa3 v3.prefix v3.intra_area_prefix_lsa flat_map
 listings = record {

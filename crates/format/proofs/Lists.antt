@@ -7,7 +7,7 @@ use mathlib.Core.List.{List, [], ◌∷◌, ◌++◌, append-nil, append_assoc, 
 use mathlib.Core.Option.{some}
 use lib.ListN.{length, length-append}
 use borrow.Author.Tests.{le-leb}
-use Rattle.format.specs.Strip.{Entry, code, encode, container}
+use Rattle.format.specs.Strip.{Entry, code, encode, direct, container}
 use Rattle.format.specs.Strip.Entry.{opens, closes}
 use Rattle.format.specs.Wrote.{Wrote}
 use Rattle.format.specs.Cut.{Span, cut, after, standing, fixed_rule}
@@ -17,38 +17,26 @@ use Rattle.format.proofs.Unique.{cut_some}
 use Rattle.format.proofs.Loop.{spread, spread_cons}
 
 -- The bytes of a container: those of its opening, of what is inside, and of its close.
-pub encode-container : (i s e : ℕ) (inside : List Entry) → encode (container i s e inside) ≡ code (opens i s e) ++ (encode inside ++ code closes)
+pub encode-container : (i s e : ℕ) (inside : List Entry) → encode (container i s e inside) ≡ code (opens i s e (direct 0 inside)) ++ (encode inside ++ code closes)
 unfolding container encode
 encode-container i s e inside = rw (encode-append inside (closes ∷ []), append-nil)
 
--- A container is written by writing its opening, what is inside, and its close.
-pub contained : {l₀ l₁ l₂ l₃ : List ℕ} {a₀ a₁ a₂ a₃ : ℕ} (i s e : ℕ) (inside : List Entry)
-    → Wrote l₀ a₀ (code (opens i s e)) l₁ a₁ → Wrote l₁ a₁ (encode inside) l₂ a₂ → Wrote l₂ a₂ (code closes) l₃ a₃
+-- A container that is opened last, its end or its number of entries being known only then: what is inside, which leaves fourteen
+-- bytes for that, then the opening, and the close.
+pub contained_last : {l₀ l₁ l₂ l₃ : List ℕ} {a₀ a₁ a₂ a₃ : ℕ} (i s e : ℕ) (inside : List Entry)
+    → Wrote l₀ (a₀ + 14) (encode inside) l₁ a₁ → Wrote l₁ a₀ (code (opens i s e (direct 0 inside))) l₂ a₂ → Wrote l₂ a₁ (code closes) l₃ a₃
     → Wrote l₀ a₀ (encode (container i s e inside)) l₃ a₃
-contained i s e inside u v w = rw (encode-container i s e inside) (then u (then v w))
+unfolding code
+contained_last {a₀ = a₀} i s e inside u v w =
+    rw (encode-container i s e inside, ← append_assoc (code (opens i s e (direct 0 inside))) (encode inside) (code closes))
+    (then (before {a = a₀} {xs = code (opens i s e (direct 0 inside))} u v) w)
 
--- A container takes eleven bytes more than what is inside.
-pub length-container : (i s e : ℕ) (inside : List Entry) → length (encode (container i s e inside)) ≡ 11 + length (encode inside)
+-- A container takes fifteen bytes more than what is inside.
+pub length-container : (i s e : ℕ) (inside : List Entry) → length (encode (container i s e inside)) ≡ 15 + length (encode inside)
 unfolding code
 length-container i s e inside = rw (encode-container i s e inside, length-append, length-append (encode inside) (code closes)) (omega arith)
 
--- An array is written so, its end being where its list ends.
-pub listed : {l₀ l₁ l₂ l₃ : List ℕ} {a₀ a₁ a₂ a₃ : ℕ} (i : ℕ) (f : Span → List Entry) (o p : ℕ) (ss : List Span) {e : ℕ} → o + after p ss ≡ e
-    → Wrote l₀ a₀ (code (opens i (o + p) e)) l₁ a₁ → Wrote l₁ a₁ (encode (flat_map f ss)) l₂ a₂ → Wrote l₂ a₂ (code closes) l₃ a₃
-    → Wrote l₀ a₀ (encode (listing i f o p ss)) l₃ a₃
-unfolding listing
-listed i f o p ss q u v w = contained i (o + p) (o + after p ss) (flat_map f ss) (rw q u) v w
-
--- The same where the array is opened last, its end being known only then. The entries leave ten bytes for that.
-pub listed_last : {l₀ l₁ l₂ l₃ : List ℕ} {a₀ a₁ a₂ a₃ : ℕ} (i : ℕ) (f : Span → List Entry) (o p : ℕ) (ss : List Span) {e : ℕ} → o + after p ss ≡ e
-    → Wrote l₀ (a₀ + 10) (encode (flat_map f ss)) l₁ a₁ → Wrote l₁ a₀ (code (opens i (o + p) e)) l₂ a₂ → Wrote l₂ a₁ (code closes) l₃ a₃
-    → Wrote l₀ a₀ (encode (listing i f o p ss)) l₃ a₃
-unfolding listing code
-listed_last {a₀ = a₀} i f o p ss {e = e} q u v w =
-    rw (encode-container i (o + p) (o + after p ss) (flat_map f ss), ← append_assoc (code (opens i (o + p) (o + after p ss))) (encode (flat_map f ss)) (code closes), q)
-    (then (before {a = a₀} {xs = code (opens i (o + p) e)} u v) w)
-
-pub length-listing : (i : ℕ) (f : Span → List Entry) (o p : ℕ) (ss : List Span) → length (encode (listing i f o p ss)) ≡ 11 + length (spread f ss)
+pub length-listing : (i : ℕ) (f : Span → List Entry) (o p : ℕ) (ss : List Span) → length (encode (listing i f o p ss)) ≡ 15 + length (spread f ss)
 unfolding listing spread
 length-listing i f o p ss = length-container i (o + p) (o + after p ss) (flat_map f ss)
 
@@ -101,8 +89,8 @@ module _ (n : ℕ) (b : List ℕ) (p : ℕ) (h : p ≤ length b) where
 
   -- the length of an array of them, where the bytes of each are of one length
   pub length_whole : (i : ℕ) (f : Span → List Entry) (o l : ℕ) → ((s : Span) → length (encode (f s)) ≡ l)
-      → length (encode (listing i f o p (whole n b p))) ≡ 11 + (length b - p) / n * l
-  length_whole i f o l u = length-listing i f o p (whole n b p) ∙ ap (λ (x : ℕ). 11 + x) (length_uniform f l u (whole n b p) ∙ ap (λ (x : ℕ). x * l) whole_count)
+      → length (encode (listing i f o p (whole n b p))) ≡ 15 + (length b - p) / n * l
+  length_whole i f o l u = length-listing i f o p (whole n b p) ∙ ap (λ (x : ℕ). 15 + x) (length_uniform f l u (whole n b p) ∙ ap (λ (x : ℕ). x * l) whole_count)
 
 -- An array that is opened only where it has an entry.
 pub if_none : (i : ℕ) (f : Span → List Entry) (o p : ℕ) (ss : List Span) → length ss ≡ 0 → listing_if_any i f o p ss ≡ []

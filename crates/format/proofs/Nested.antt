@@ -20,13 +20,17 @@ use Rattle.format.specs.Laid.{field_shape, is_field}
 pub data Nested (ok : ℕ → Bool) : List Entry → Type 0 where
   none : Nested ok []
   field : {x : Entry} {es : List Entry} → is_field x ≡ true → Nested ok es → Nested ok (x ∷ es)
-  group : {inside es : List Entry} (i s e : ℕ) → ok i ≡ true → Nested ok inside → Nested ok es → Nested ok (opens i s e ∷ (inside ++ (closes ∷ es)))
+  group : {inside es : List Entry} (i s e n : ℕ) → ok i ≡ true → Nested ok inside → Nested ok es → Nested ok (opens i s e n ∷ (inside ++ (closes ∷ es)))
+
+-- Any id.
+abbrev pub any : ℕ → Bool
+any i = true
 
 module _ (ok : ℕ → Bool) where
   pub nested_append : {xs ys : List Entry} → Nested ok xs → Nested ok ys → Nested ok (xs ++ ys)
   nested_append none n = n
   nested_append (field e m) n = field e (nested_append m n)
-  nested_append {ys = ys} (group {inside} {es} i s e h m k) n = rw append_assoc (group i s e h m (nested_append k n))
+  nested_append {ys = ys} (group {inside} {es} i s e c h m k) n = rw append_assoc (group i s e c h m (nested_append k n))
 
   -- a choice between two well-nested lists
   pub nested_cond : (t : Bool) {xs ys : List Entry} → Nested ok xs → Nested ok ys → Nested ok (cond t xs ys)
@@ -60,7 +64,7 @@ pub absent : {ok : ℕ → Bool} {es : List Entry} (i : ℕ) → ok i ≡ false 
 unfolding ranges
 absent i h none = refl
 absent i h (field {x} {es} e n) = rw (opens_nothing i x e) (absent i h n)
-absent {ok} i h (group {inside} {es} j s e g m n) = go (eqb i j) refl (absent i h m) (absent i h n)
+absent {ok} i h (group {inside} {es} j s e c g m n) = go (eqb i j) refl (absent i h m) (absent i h n)
   where
     go : (t : Bool) → eqb i j ≡ t → ranges i inside ≡ [] → ranges i es ≡ [] → cond t (range s e ∷ []) [] ++ ranges i (inside ++ (closes ∷ es)) ≡ []
     go true q u v = let p = eqb-true i j q in let z : ◌≡◌ {A = Bool} true false = sym g ∙ (ap ok (sym p) ∙ h) in let y : ◌≡◌ {A = ℕ} 0 1 = cc in absurd (omega arith)

@@ -39,7 +39,7 @@ step_at_lem k n pre body rest e h =
 -- the step at an entry's first byte
 pub at_entry : (pre : List ℕ) (e : Entry) (rest : List ℕ) → step_at (pre ++ (code e ++ rest)) (length pre) ≡ entry e (length pre + length (code e))
 unfolding code
-at_entry pre (opens i s t) rest = rw (step_at_lem 1 9 pre (head i s t) rest refl refl, back32 s, back32 t) (ap (entry (opens i s t)) (omega arith))
+at_entry pre (opens i s t n) rest = rw (step_at_lem 1 13 pre (head i s t ++ be32 n) rest refl refl, back32 s, back32 t, back32 n) (ap (entry (opens i s t n)) (omega arith))
 at_entry pre closes rest = rw (step_at_lem 2 0 pre [] rest refl refl) (ap (entry closes) (omega arith))
 at_entry pre (u8 i s t v) rest = rw (step_at_lem 3 10 pre (head i s t ++ (v ∷ [])) rest refl refl, back32 s, back32 t) (ap (entry (u8 i s t v)) (omega arith))
 at_entry pre (u16 i s t v) rest = rw (step_at_lem 4 11 pre (head i s t ++ be16 v) rest refl refl, back32 s, back32 t, back16 v) (ap (entry (u16 i s t v)) (omega arith))

@@ -8,6 +8,7 @@ use mathlib.Core.Path.{◌≡◌, refl, sym}
 use mathlib.Core.Bool.{Bool, true, false, cond}
 use mathlib.Core.List.{List, [], ◌∷◌}
 use lib.Dec.{eqb}
+use lib.ListN.{length}
 use Rattle.format.specs.Bytes.{be24_at}
 use Rattle.format.specs.Metric.{ls_infinity}
 use Rattle.format.specs.Metric.Metric.{cost, unreachable}
@@ -18,6 +19,8 @@ use Rattle.format.specs.Layout.Row.{row}
 use Rattle.format.specs.Laid.{is_field, start, end, Laid, among, only}
 use Rattle.format.specs.Laid.Laid.{none, field}
 use Rattle.format.proofs.Laid.{cond_same}
+use Rattle.format.specs.Inside.{Counts}
+use Rattle.format.proofs.Inside.{counts_none, counts_field}
 use Rattle.format.proofs.Nested.{Nested}
 use Rattle.format.proofs.Nested.Nested.{none as nested_none, field as nested_field}
 
@@ -101,6 +104,11 @@ module _ (b : List ℕ) (o p : ℕ) where
   pub rows_nested : (ok : ℕ → Bool) (t : Layout) → Nested ok (entries_at t b o p)
   rows_nested ok [] = nested_none
   rows_nested ok (row k f i ∷ rs) = nested_field (row_is k i f).0 (rows_nested ok rs)
+
+  -- each row is one entry
+  pub counts_rows : (t : Layout) → Counts (length t) (entries_at t b o p)
+  counts_rows [] = counts_none
+  counts_rows (row k f i ∷ rs) = let l : 1 + length rs ≡ suc (length rs) = omega arith in rw (← l) (counts_field (row_is k i f).0 (counts_rows rs))
 
   -- a table in a record of n bytes
   pub rows_laid : (c ms r : List ℕ) {lo hi : ℕ} (n : ℕ) (t : Layout) → Within n t → ids_fit ms t ≡ true → lo ≤ o + p → o + p + n ≤ hi → Laid (only c ms r) lo hi (entries_at t b o p)

@@ -13,7 +13,7 @@ use lib.Dec.{eqb}
 use borrow.Author.Tests.{le-ltb, lt-ltb, eq-eqb}
 use Rattle.format.specs.Bytes.{be16_at, be32_at}
 use Rattle.format.specs.Strip.{Entry, encode, read_all, container}
-use Rattle.format.specs.Strip.Entry.{bytes}
+use Rattle.format.specs.Strip.Entry.{opens, closes, bytes}
 use Rattle.format.specs.Layout.{Layout, entries_at}
 use Rattle.format.specs.Cut.{Span, Rule, cut, after, link_rule, prefix_rule}
 use Rattle.format.specs.Header.{header_size, header_entries2, header_entries3}
@@ -27,6 +27,8 @@ use Rattle.format.proofs.Read.{read_encode}
 use Rattle.format.specs.CutInto.{LinkAt, PrefixAt}
 use Rattle.format.proofs.CutInto.{cut_into, only-cut, link_stands, prefix_stands}
 use Rattle.format.proofs.Nested.{Nested, nested_append, nested_leftover, absent, ranges-append, ranges-container}
+use Rattle.format.specs.Inside.{Counts}
+use Rattle.format.proofs.Inside.{direct_of, counts_container, counts_each, counts_nested}
 use Rattle.format.proofs.Rows.{rows_nested}
 use Rattle.format.proofs.Laid.{cut_inside}
 use Rattle.format.proofs.NestedLsa.{nested_header2, nested_header3, nested_link_inside, nested_prefix_inside}
@@ -59,6 +61,12 @@ leftover_some : (i : ℕ) (b : List ℕ) (o p : ℕ) → p < length b → leftov
 unfolding leftover
 leftover_some i b o p h = rw (lt-ltb p (length b) h)
 
+-- An array around containers says how many they are.
+opened : (i s e : ℕ) {f : Span → List Entry} → ((s : Span) → Counts 1 (f s)) → (ss : List Span) (xs : List Entry)
+    → container i s e (flat_map f ss) ++ xs ≡ opens i s e (length ss) ∷ (flat_map f ss ++ (closes ∷ xs))
+unfolding container
+opened i s e {f} h ss xs = rw (direct_of (counts_each f h ss)) (ap (λ (ys : List Entry). opens i s e (length ss) ∷ ys) (append_assoc (flat_map f ss) (closes ∷ []) xs))
+
 -- One theorem for every list: entries before an array of containers, the array, and what is left of the body.
 module _ (r : Rule) (b : List ℕ) (standsAt : ℕ → ℕ → Type 0) (says : (p n : ℕ) → (r b p ≡ some n) ↔ standsAt p n) (count first : ℕ) (ends : after first (cut r b count first) ≤ length b)
     (o array item unparsed : ℕ) (inside : Span → List Entry) (ok : ℕ → Bool)
@@ -87,7 +95,7 @@ module _ (r : Rule) (b : List ℕ) (standsAt : ℕ → ℕ → Type 0) (says : (
         arrays = in_array array ok-array ∙ rw (eq-eqb array array refl)
             (ap (λ (x : List Range). range (o + first) (o + after first ss) ∷ x) (items_absent o item inside array apart (λ s. absent array ok-array (nested s)) ss));
         rest = left;
-        shape = e;
+        shape = e ∙ ap (λ (x : List Entry). before ++ x) (opened array (o + first) (o + after first ss) (λ s. counts_container item _ _ (counts_nested (nested s))) ss left);
         none_before = absent item ok-item n;
         none_held = λ s. absent item ok-item (nested s);
         rest_none = λ z. leftover_none unparsed b o (after first ss) (omega arith);

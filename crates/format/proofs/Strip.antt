@@ -46,11 +46,11 @@ be64_is n =
 
 -- An entry of each kind, in the order of their numbers.
 abbrev one_of_each : (i s e v h l : ℕ) → List Entry
-one_of_each i s e v h l = opens i s e ∷ closes ∷ u8 i s e v ∷ u16 i s e v ∷ u32 i s e v ∷ ip4 i s e v ∷ ip6 i s e h l ∷ bytes i s e ∷ unreachable i s e ∷ u64 i s e v ∷ []
+one_of_each i s e v h l = opens i s e v ∷ closes ∷ u8 i s e v ∷ u16 i s e v ∷ u32 i s e v ∷ ip4 i s e v ∷ ip6 i s e h l ∷ bytes i s e ∷ unreachable i s e ∷ u64 i s e v ∷ []
 
 -- The bytes of an entry of each kind with the id i, the start s and the end e; and its length, its shape and its range.
 pub record Kinds (i s e : ℕ) : Type 0 where
-  pub open_entry : code (opens i s e) ≡ 1 ∷ i ∷ (four s ++ four e)
+  pub open_entry : (n : ℕ) → code (opens i s e n) ≡ 1 ∷ i ∷ (four s ++ (four e ++ four n))
   pub close_entry : code closes ≡ 2 ∷ []
   pub u8_field : (v : ℕ) → code (u8 i s e v) ≡ 3 ∷ i ∷ (four s ++ (four e ++ (v ∷ [])))
   pub u16_field : (v : ℕ) → code (u16 i s e v) ≡ 4 ∷ i ∷ (four s ++ (four e ++ (v / 256 ∷ v % 256 ∷ [])))
@@ -61,7 +61,7 @@ pub record Kinds (i s e : ℕ) : Type 0 where
   pub unreachable_entry : code (unreachable i s e) ≡ 9 ∷ i ∷ (four s ++ four e)
   pub u64_field : (v : ℕ) → code (u64 i s e v) ≡ 10 ∷ i ∷ (four s ++ (four e ++ eight v))
   -- the kind's byte, and as many of its body as the table says
-  pub lengths : (v h l : ℕ) → map (λ (x : Entry). length (code x)) (one_of_each i s e v h l) ≡ (1 + 9) ∷ (1 + 0) ∷ (1 + 10) ∷ (1 + 11) ∷ (1 + 13) ∷ (1 + 13) ∷ (1 + 25) ∷ (1 + 9) ∷ (1 + 9) ∷ (1 + 17) ∷ []
+  pub lengths : (v h l : ℕ) → map (λ (x : Entry). length (code x)) (one_of_each i s e v h l) ≡ (1 + 13) ∷ (1 + 0) ∷ (1 + 10) ∷ (1 + 11) ∷ (1 + 13) ∷ (1 + 13) ∷ (1 + 25) ∷ (1 + 9) ∷ (1 + 9) ∷ (1 + 17) ∷ []
   -- what the claims of ranges, nesting and layout see of it
   pub shapes : (v h l : ℕ) → map (λ (x : Entry). (content x).shape) (one_of_each i s e v h l) ≡ opening ∷ closing ∷ valued ∷ valued ∷ numbered v ∷ valued ∷ valued ∷ ranged ∷ costless ∷ valued ∷ []
   pub ids : (v h l : ℕ) → map (λ (x : Entry). (content x).id) (one_of_each i s e v h l) ≡ i ∷ 0 ∷ i ∷ i ∷ i ∷ i ∷ i ∷ i ∷ i ∷ i ∷ []
@@ -73,7 +73,7 @@ unfolding code
 kinds i s e =
     let p = be32_is s in
     let q = be32_is e in record {
-      open_entry = cc;
+      open_entry = λ n. let r = be32_is n in cc;
       close_entry = refl;
       u8_field = λ v. cc;
       u16_field = λ v. cc;

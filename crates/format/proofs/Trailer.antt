@@ -51,11 +51,11 @@ pub auth_trailer_stands : (d : List ℕ) (n : ℕ) → auth_trailer_rule d 0 ≡
 auth_trailer_stands d n e = let s = stood auth_trailer_header auth_trailer_size d n e in rw s.0 (s.1.covers, s.1.inside)
 
 -- The strips, whatever the block's length.
-pub lls_strip_length : (d : List ℕ) (o n : ℕ) → length (encode (lls_entries d o n)) ≡ 45
+pub lls_strip_length : (d : List ℕ) (o n : ℕ) → length (encode (lls_entries d o n)) ≡ 49
 unfolding lls_entries container encode code
 lls_strip_length d o n = refl
 
-pub trailer_strip_length : (d : List ℕ) (o n : ℕ) → length (encode (auth_trailer_entries d o n)) ≡ 75
+pub trailer_strip_length : (d : List ℕ) (o n : ℕ) → length (encode (auth_trailer_entries d o n)) ≡ 79
 unfolding auth_trailer_entries container encode code
 trailer_strip_length d o n = refl
 

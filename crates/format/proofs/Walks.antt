@@ -20,6 +20,7 @@ use Rattle.format.specs.Shown.{own, UpdateShows, OneShows, HeadersShow}
 use Rattle.format.specs.Lists.{unparsed}
 use Rattle.format.proofs.Nested.{Nested}
 use Rattle.format.proofs.Nested.Nested.{none}
+use Rattle.format.proofs.Openings.{openings_count}
 use Rattle.format.proofs.Laid.{cut_inside, weaken}
 use Rattle.format.proofs.LaidLsa.{laid_lsa}
 use Rattle.format.proofs.Unreachable.{metrics_shown, unreachable_passes}
@@ -36,7 +37,7 @@ use Rattle.format.proofs.Wrote.{encode-append}
 strip_length : {n : ℕ} {es : List Entry} {r t : ℕ} {before : List ℕ} (k : Taken n es r t before) → length (take (length (encode es)) (sets before 0 (encode es))) ≡ length (encode es)
 strip_length {es = es} {before = before} k = length-take-le (length (encode es)) (sets before 0 (encode es)) (rw (length-sets before 0 (encode es)) k.fits)
 
--- An outer array has eleven bytes at least.
+-- An outer array has fifteen bytes at least.
 outer_longer : (v : ℕ) (f : Span → List Entry) (d : List ℕ) (o p : ℕ) (ss : List Span) → 0 < length (encode (outer v f d o p ss))
 unfolding outer
 outer_longer v f d o p ss =
@@ -71,6 +72,7 @@ update_shows v d count o before h =
       end = after 4 (lsas d count);
       read = read_strip es before k.fits;
       laid = weaken (λ x u. refl) l;
+      openings = openings_count l;
       unreachable_ids = λ i s e m. unreachable_passes l m;
       metrics_shown = λ s. metrics_shown v (own d s) (o + s.at);
       links = update_links v d count o;
@@ -94,6 +96,7 @@ one_shows v d o before h =
       entries = es;
       read = read_strip es before k.fits;
       laid = laid_lsa v d o (limits v d o 20 k.not_refused).enough;
+      openings = openings_count (laid_lsa v d o (limits v d o 20 k.not_refused).enough);
       metrics_shown = metrics_shown v d o;
       links = link-ranges v d o;
       prefixes = λ e. rw e (prefix-ranges d o);
@@ -125,6 +128,7 @@ headers_show v d o before h =
       end = after 0 (cut (fixed_rule header_size) d (length d / 20) 0);
       read = read_strip es before k.fits;
       laid = weaken (λ x u. refl) (laid_headers v d o);
+      openings = openings_count (laid_headers v d o);
       unreachable_none = λ i s e m. let z : ◌≡◌ {A = ℕ} 0 1 = cc (unreachable_passes (laid_headers v d o) m) in omega arith;
       shows = sh;
       all_whole = omega arith;

@@ -38,7 +38,7 @@ eight d k =
 -- The entries of a block of n bytes whose first byte is at the place o.
 abbrev pub lls_shown : List ℕ → (o n : ℕ) → List Entry
 lls_shown d o n =
-    opens 136 o (o + n) ∷
+    opens 136 o (o + n) 3 ∷
     u16 128 o (o + 2) (two d 0) ∷
     u16 129 (o + 2) (o + 4) (two d 2) ∷
     bytes 130 (o + 4) (o + n) ∷
@@ -47,7 +47,7 @@ lls_shown d o n =
 
 abbrev pub auth_trailer_shown : List ℕ → (o n : ℕ) → List Entry
 auth_trailer_shown d o n =
-    opens 152 o (o + n) ∷
+    opens 152 o (o + n) 5 ∷
     u16 144 o (o + 2) (two d 0) ∷
     u16 145 (o + 2) (o + 4) (two d 2) ∷
     u16 146 (o + 6) (o + 8) (two d 6) ∷

@@ -30,10 +30,19 @@ whole n b p = cut (fixed_rule n) b ((length b - p) / n) p
 unfoldable pub leftover : ℕ → List ℕ → ℕ → ℕ → List Entry
 leftover i b o p = cond (ltb p (length b)) (bytes i (o + p) (o + length b) ∷ []) []
 
--- A body's entries, with what is left of it: unparsed bytes after what was decoded, or the whole of a raw body.
+-- A body's own entries. A raw body has none.
+abbrev pub own_of : Body → List Entry
+own_of (decoded es n) = es
+own_of raw = []
+
+-- What is left of a body after them: unparsed bytes after what was decoded, or the whole of a raw body.
+abbrev pub rest_of : (rawId unparsed_id : ℕ) → Body → List ℕ → ℕ → List Entry
+rest_of r u (decoded es n) b o = leftover u b o n
+rest_of r u raw b o = leftover r b o 0
+
+-- A body's entries, with what is left of it.
 unfoldable pub body_entries : (rawId unparsed_id : ℕ) → Body → List ℕ → ℕ → List Entry
-body_entries r u (decoded es n) b o = es ++ leftover u b o n
-body_entries r u raw b o = leftover r b o 0
+body_entries r u x b o = own_of x ++ rest_of r u x b o
 
 -- How many bytes stay unparsed. A raw body leaves none.
 unfoldable pub body_tail : Body → List ℕ → ℕ

@@ -7,6 +7,7 @@ use Rattle.format.specs.Header.{header_at}
 use Rattle.format.specs.Newer.{Newer}
 use Rattle.format.specs.Fletcher.{NoLsa, Lsa, Good, Made}
 use Rattle.format.specs.Strip.{Entry}
+use Rattle.format.specs.Inside.{OpeningsCount}
 use Rattle.format.specs.Laid.{Laid, anything}
 use Rattle.format.specs.Part.{GivesBack}
 use Rattle.format.specs.Cut.{Span}
@@ -113,7 +114,7 @@ pub record BlockHost (d : List ℕ) (o : ℕ) (Stands : ℕ → Type 0) (needed 
   pub length_of : ((0 < block_in r) ⊎ (number_in r ≡ 5)) → result_in r ≡ needed
   pub no_length : ((number_in r ≡ 2) ⊎ (number_in r ≡ 3)) → result_in r ≡ 0
   pub no_block : (number_in r ≡ 0 → ⊥) → block_in r ≡ 0
-  pub strip : 0 < block_in r → GivesBack d o (take (result_in r) after) (shown (block_in r)) × Laid anything o (o + block_in r) (shown (block_in r))
+  pub strip : 0 < block_in r → GivesBack d o (take (result_in r) after) (shown (block_in r)) × Laid anything o (o + block_in r) (shown (block_in r)) × OpeningsCount (shown (block_in r))
   pub past : 0 < block_in r → drop (result_in r) after ≡ drop (result_in r) before
   pub left : block_in r ≡ 0 → after ≡ before
   pub as_long : length after ≡ length before

@@ -1,6 +1,9 @@
--- Entries that are laid out in a range: every entry's start and end lie in it, in order, and what is inside a container
--- lies in the container's own range. So every place of a strip lies in the container around it and in the data.
+-- Entries that are laid out in a range: every entry's start and end lie in it, in order, what is inside a container lies in the
+-- container's own range, and the opening says how many entries are directly inside. So every place of a strip lies in the
+-- container around it and in the data.
 use Rattle.std.specs.Prelude.{ℕ, ◌-◌, ◌≤◌, ◌<◌, ◌≡◌, Bool, true, false, cond, List, [], ◌∷◌, ◌++◌, eqb}
+use Rattle.std.proofs.Math.Option.{some}
+use Rattle.format.specs.Inside.{scan}
 use Rattle.format.specs.Strip.{Entry, Shape, content}
 use Rattle.format.specs.Strip.Entry.{opens, closes, bytes}
 use Rattle.format.specs.Strip.Shape.{opening, closing, valued, numbered, ranged, costless}
@@ -24,13 +27,13 @@ start x = (content x).start
 abbrev pub end : Entry → ℕ
 end x = (content x).end
 
--- Every field and every opening passes the test, and lies from lo to hi; each opening has its close, and what stands
--- between the two lies in that container's range.
+-- Every field and every opening passes the test, and lies from lo to hi; each opening has its close, which scanning forward finds
+-- with the number that the opening says, and what stands between the two lies in that container's range.
 pub data Laid (has : Entry → Bool) : (lo hi : ℕ) → List Entry → Type 0 where
   none : {lo hi : ℕ} → Laid has lo hi []
   field : {lo hi : ℕ} {x : Entry} {es : List Entry} → is_field x ≡ true → has x ≡ true → lo ≤ start x → start x ≤ end x → end x ≤ hi → Laid has lo hi es → Laid has lo hi (x ∷ es)
-  group : {lo hi : ℕ} {inside es : List Entry} (i s e : ℕ) → has (opens i s e) ≡ true → lo ≤ s → s ≤ e → e ≤ hi
-      → Laid has s e inside → Laid has lo hi es → Laid has lo hi (opens i s e ∷ (inside ++ (closes ∷ es)))
+  group : {lo hi : ℕ} {inside es : List Entry} (i s e n : ℕ) → has (opens i s e n) ≡ true → scan 0 0 (inside ++ (closes ∷ [])) ≡ some (n, []) → lo ≤ s → s ≤ e → e ≤ hi
+      → Laid has s e inside → Laid has lo hi es → Laid has lo hi (opens i s e n ∷ (inside ++ (closes ∷ es)))
 
 -- Whether an id is one of a list.
 abbrev pub among : List ℕ → ℕ → Bool

@@ -21,6 +21,7 @@ pub mod Pieces
 -- And what is claimed of it, in the requirements' words and numbers.
 pub mod CutInto
 pub mod Ranges
+pub mod Inside
 pub mod Laid
 pub mod Lists
 pub mod Unreachable

@@ -99,9 +99,9 @@ u64_word = 117 ∷ 54 ∷ 52 ∷ []
 abbrev pub field : List ℕ → ℕ → ℕ → ℕ → List ℕ
 field word i s e = word ++ place i s e
 
--- An entry in words: its field, and a value where it has one.
+-- An entry in words: its field, and the value or the count where it has one.
 abbrev pub text : Entry → List ℕ
-text (opens i s e) = field open_word i s e
+text (opens i s e n) = field open_word i s e ++ spaced n
 text closes = close_word
 text (u8 i s e v) = field u8_word i s e ++ spaced v
 text (u16 i s e v) = field u16_word i s e ++ spaced v

@@ -69,7 +69,7 @@ pub record BookNumbers (v : ℕ) (d : List ℕ) (o : ℕ) (rs t : List Row) (num
 
 -- The kinds are 1 to 10, and their bodies have these bytes.
 abbrev pub body_bytes : List ℕ
-body_bytes = 9 ∷ 0 ∷ 10 ∷ 11 ∷ 13 ∷ 13 ∷ 25 ∷ 9 ∷ 9 ∷ 17 ∷ []
+body_bytes = 13 ∷ 0 ∷ 10 ∷ 11 ∷ 13 ∷ 13 ∷ 25 ∷ 9 ∷ 9 ∷ 17 ∷ []
 
 abbrev pub Kind : ℕ → Type 0
 Kind k = (1 ≤ k) × (k ≤ 10)

@@ -1,12 +1,14 @@
--- How a strip shows the cut of a list: one array, with one container for each span, and the tail after it.
+-- How a strip shows the cut of a list: one array, with one container for each span, and the tail after it. And what the walks'
+-- strips show besides.
 use Rattle.std.specs.Prelude.{ℕ, ◌+◌, ◌/◌, ◌%◌, ◌≤◌, ◌<◌, ◌≡◌, true, cond, length, get_or, take, drop, eqb}
 use mathlib.Core.List.{List, [], ◌∷◌, ◌++◌, flat_map, Memᴰ}
 use Rattle.std.proofs.Math.Option.{some}
 use Rattle.format.specs.Bytes.{be16_at, be32_at}
 use Rattle.format.specs.Strip.{Entry, container, read_all}
-use Rattle.format.specs.Strip.Entry.{bytes, unreachable}
+use Rattle.format.specs.Strip.Entry.{opens, closes, bytes, unreachable}
 use Rattle.format.specs.Cut.{Span}
 use Rattle.format.specs.Ranges.{range, ranges, placed}
+use Rattle.format.specs.Inside.{OpeningsCount}
 use Rattle.format.specs.Laid.{Laid, among, anything, Ending}
 use Rattle.format.specs.Lists.{containers, metric_ids, metrics, raw_or_tlvs, unparsed, holds, link_ranges, prefix_ranges}
 use Rattle.format.specs.Unreachable.{MetricsShown}
@@ -18,8 +20,8 @@ use Rattle.format.specs.V3.{lsa_entries3}
 -- The entries es show the cut of a list, in a body of `size` bytes whose first byte is at the place o. The spans, which end
 -- at `end`, and the tail are its cut, and the only one. The containers with the items' id are the spans, in order; the one
 -- with the array's id lies from the list's first place to where the tail begins. Before the array no item stands; in it
--- are the spans' containers, with what they hold, and nothing else; after it comes nothing, or, where the tail is not
--- empty, one unparsed entry to the body's end.
+-- are the spans' containers, with what they hold, and nothing else, and its opening says how many; after it comes nothing,
+-- or, where the tail is not empty, one unparsed entry to the body's end.
 pub record Shows (standsAt : ℕ → ℕ → Type 0) (size count first o array item unparsed : ℕ)
     (spans : List Span) (end tail : ℕ) (before : List Entry) (held : Span → List Entry) (es : List Entry) : Type 0 where
   pub is_cut : CutInto standsAt size first count spans end tail
@@ -29,7 +31,8 @@ pub record Shows (standsAt : ℕ → ℕ → Type 0) (size count first o array i
   pub none_before : ranges item before ≡ []
   pub none_held : (s : Span) → ranges item (held s) ≡ []
   pub rest : List Entry
-  pub shape : es ≡ before ++ (container array (o + first) (o + end) (flat_map (λ (s : Span). container item (o + s.at) (o + s.at + s.len) (held s)) spans) ++ rest)
+  pub shape : es ≡ before
+      ++ (opens array (o + first) (o + end) (length spans) ∷ (flat_map (λ (s : Span). container item (o + s.at) (o + s.at + s.len) (held s)) spans ++ (closes ∷ rest)))
   pub rest_none : tail ≡ 0 → rest ≡ []
   pub rest_some : 0 < tail → rest ≡ bytes unparsed (o + end) (o + size) ∷ []
 
@@ -56,15 +59,16 @@ pub record LsaShows (v : ℕ) (d : List ℕ) (o : ℕ) (es : List Entry) (tail :
 abbrev pub own : List ℕ → Span → List ℕ
 own d s = take s.len (drop s.at d)
 
--- An accepted update: its strip reads as entries, laid out in the data, that show the cut of its records; each object
--- holds the entries of its LSA's own bytes at its own place, which show the lists inside it and what its metrics are; a kind
--- 9 entry has an id of a metric; and the answer's records are the spans' number, and the objects'.
+-- An accepted update: its strip reads as entries, laid out in the data, whose openings count what they hold, and that show the
+-- cut of its records; each object holds the entries of its LSA's own bytes at its own place, which show the lists inside it and
+-- what its metrics are; a kind 9 entry has an id of a metric; and the answer's records are the spans' number, and the objects'.
 pub record UpdateShows (v : ℕ) (d : List ℕ) (count o : ℕ) (strip : List ℕ) (records tail : ℕ) : Type 0 where
   pub entries : List Entry
   pub spans : List Span
   pub end : ℕ
   pub read : read_all strip ≡ some entries
   pub laid : Laid anything o (o + length d) entries
+  pub openings : OpeningsCount entries
   pub shows : Shows (RecordAt d) (length d) count 4 o 114 113 (unparsed v) spans end tail []
       (λ s. cond (eqb v 2) (lsa_entries2 (own d s) (o + s.at)) (lsa_entries3 (own d s) (o + s.at))) entries
   pub links : ranges 96 entries ≡ flat_map (λ (s : Span). link_ranges v (own d s) (o + s.at)) spans
@@ -76,12 +80,13 @@ pub record UpdateShows (v : ℕ) (d : List ℕ) (count o : ℕ) (strip : List �
   pub objects_counted : length (ranges 113 entries) ≡ records
   pub longer : 0 < length strip
 
--- An accepted single LSA: its strip reads as its entries, laid out in the data, which show the lists inside it, what its
--- metrics are, and end in its tail, if there is one; it is one record.
+-- An accepted single LSA: its strip reads as its entries, laid out in the data, whose openings count what they hold, and which
+-- show the lists inside it, what its metrics are, and end in its tail, if there is one; it is one record.
 pub record OneShows (v : ℕ) (d : List ℕ) (o : ℕ) (strip : List ℕ) (records tail : ℕ) : Type 0 where
   pub entries : List Entry
   pub read : read_all strip ≡ some entries
   pub laid : Laid (holds v d) o (o + length d) entries
+  pub openings : OpeningsCount entries
   pub entries_are : entries ≡ cond (eqb v 2) (lsa_entries2 d o) (lsa_entries3 d o)
   pub links : ranges 96 entries ≡ link_ranges v d o
   pub prefixes : v ≡ 3 → ranges 97 entries ≡ prefix_ranges d o
@@ -91,14 +96,16 @@ pub record OneShows (v : ℕ) (d : List ℕ) (o : ℕ) (strip : List ℕ) (recor
   pub counted : records ≡ 1
   pub longer : 0 < length strip
 
--- An accepted header list: its strip reads as entries, laid out in the data, that show all whole headers; each
--- object holds the entries of its own header at its own place; no entry is of kind 9; the answer's records are their number.
+-- An accepted header list: its strip reads as entries, laid out in the data, whose openings count what they hold, and that show
+-- all whole headers; each object holds the entries of its own header at its own place; no entry is of kind 9; the answer's
+-- records are their number.
 pub record HeadersShow (v : ℕ) (d : List ℕ) (o : ℕ) (strip : List ℕ) (records tail : ℕ) : Type 0 where
   pub entries : List Entry
   pub spans : List Span
   pub end : ℕ
   pub read : read_all strip ≡ some entries
   pub laid : Laid anything o (o + length d) entries
+  pub openings : OpeningsCount entries
   pub shows : Shows (FixedAt 20 d) (length d) (length d / 20) 0 o 114 112 (unparsed v) spans end tail []
       (λ s. cond (eqb v 2) (header_entries2 (own d s) (o + s.at)) (header_entries3 (own d s) (o + s.at))) entries
   pub unreachable_none : (i s e : ℕ) → Memᴰ (unreachable i s e) entries → ⊥

@@ -1,14 +1,14 @@
 -- The strip: its entries, their bytes, and how they are read back.
-use Rattle.std.specs.Prelude.{ℕ, zero, suc, ◌+◌, ◌/◌, ◌%◌, cond, List, [], ◌∷◌, ◌++◌, length, get_or, leb, ltb, eqb}
+use Rattle.std.specs.Prelude.{ℕ, zero, suc, ◌+◌, ◌-◌, ◌/◌, ◌%◌, cond, List, [], ◌∷◌, ◌++◌, length, get_or, leb, ltb, eqb}
 use Rattle.std.proofs.Math.Option.{Option, none, some}
 use Rattle.format.specs.Bytes.{be16, be32, be64, be16_at, be24_at, be32_at, be64_at}
 use Rattle.format.specs.Metric.{Metric, metric_at}
 use Rattle.format.specs.Metric.Metric.{cost, unreachable as infinite}
 
--- Field id, start and end come first in each, and then the value. An IPv4 address is the number of its four bytes, an
--- IPv6 address the two numbers of its halves. A metric that is no cost has no value: it is unreachable.
+-- Field id, start and end come first in each, and then the value, or of an opening the number of entries directly inside. An
+-- IPv4 address is the number of its four bytes, an IPv6 address the two numbers of its halves. A metric that is no cost has no value: it is unreachable.
 pub data Entry : Type 0 where
-  opens : (id start end : ℕ) → Entry
+  opens : (id start end entries : ℕ) → Entry
   closes : Entry
   u8 : (id start end value : ℕ) → Entry
   u16 : (id start end value : ℕ) → Entry
@@ -72,13 +72,13 @@ pub record Content : Type 0 where
   pub end : ℕ
   pub body : List ℕ
 
--- Every body but a close's begins with the id, the start and the end; the value follows.
+-- Every body but a close's begins with the id, the start and the end; the value, or an opening's count, follows.
 abbrev says : ℕ → Shape → ℕ → ℕ → ℕ → List ℕ → Content
 says k f i s e value = record { kind = k; shape = f; id = i; start = s; end = e; body = head i s e ++ value }
 
 -- A row for each kind. A close has no id, start and end: the zeros say nothing.
 abbrev pub content : Entry → Content
-content (opens i s e) = says open_kind opening i s e []
+content (opens i s e n) = says open_kind opening i s e (be32 n)
 content closes = record { kind = close_kind; shape = closing; id = 0; start = 0; end = 0; body = [] }
 content (u8 i s e v) = says u8_kind valued i s e (v ∷ [])
 content (u16 i s e v) = says u16_kind valued i s e (be16 v)
@@ -98,9 +98,25 @@ unfoldable pub encode : List Entry → List ℕ
 encode [] = []
 encode (x ∷ xs) = code x ++ encode xs
 
--- A container with what is inside it. Nothing else opens or closes.
+-- How many containers are open after an entry, where so many are open before it.
+abbrev pub depth_after : Shape → ℕ → ℕ
+depth_after opening d = suc d
+depth_after closing d = d - 1
+depth_after valued d = d
+depth_after (numbered v) d = d
+depth_after ranged d = d
+depth_after costless d = d
+
+-- The number of entries that stand directly in a list that is well nested: those before which none of its containers is open. So
+-- a container counts once, by its opening; what is inside it does not count, and neither does its close. The first argument is
+-- how many are open.
+unfoldable pub direct : (depth : ℕ) → List Entry → ℕ
+direct d [] = 0
+direct d (x ∷ xs) = cond (eqb d 0) 1 0 + direct (depth_after (content x).shape d) xs
+
+-- A container with what is inside it, whose number of direct entries its opening says. Nothing else opens or closes.
 unfoldable pub container : ℕ → ℕ → ℕ → List Entry → List Entry
-container i s e inside = opens i s e ∷ (inside ++ (closes ∷ []))
+container i s e inside = opens i s e (direct 0 inside) ∷ (inside ++ (closes ∷ []))
 
 -- Fields by where they lie: the bytes of b at p, the first byte of b being at the place o.
 abbrev pub u8_at : ℕ → List ℕ → ℕ → ℕ → Entry
@@ -155,7 +171,7 @@ pub data Step : Type 0 where
 -- The kinds, and the lengths of their bodies.
 abbrev pub bodies : List (ℕ × ℕ)
 bodies =
-    (open_kind, 9) ∷
+    (open_kind, 13) ∷
     (close_kind, 0) ∷
     (u8_kind, 10) ∷
     (u16_kind, 11) ∷
@@ -175,10 +191,10 @@ length_in (b ∷ bs) k = cond (eqb k b.0) (some b.1) (length_in bs k)
 abbrev pub body_length : ℕ → Option ℕ
 body_length k = length_in bodies k
 
--- The entry of a kind with this id, start and end. Its value, if the kind has one, stands in the body at q after them.
+-- The entry of a kind with this id, start and end. Its value or count, if the kind has one, stands in the body at q after them.
 abbrev pub entry_of_kind : (kind id start end : ℕ) → List ℕ → ℕ → Entry
 entry_of_kind k i b e s q =
-    cond (eqb k open_kind) (opens i b e)
+    cond (eqb k open_kind) (opens i b e (be32_at s (q + 9)))
     (cond (eqb k close_kind) closes
     (cond (eqb k u8_kind) (u8 i b e (get_or s (q + 9) 0))
     (cond (eqb k u16_kind) (u16 i b e (be16_at s (q + 9)))

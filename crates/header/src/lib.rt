@@ -1,6 +1,6 @@
 // The LSA header of both versions: its type and numbers, its reading from bytes, its entries in a strip, and which of two
 // instances is newer.
-#![tactic(auto, unfolding(format::specs::Strip::code, format::specs::Strip::encode, format::specs::Header::header_entries2, format::specs::Header::header_entries3))]
+#![tactic(auto, unfolding(format::specs::Strip::code, format::specs::Strip::direct, format::specs::Strip::encode, format::specs::Header::header_entries2, format::specs::Header::header_entries3))]
 
 ghost use Rattle.std.specs.Prelude.{◌≡◌, ◌≤◌, length};
 ghost use Rattle.format.specs.Header.{max_age, instance_entries, read_header, newness, newness_at, aged, younger};

@@ -1,7 +1,7 @@
 // The entries of a version 2 LSA header (RFC 2328 A.4.1, RFC 5250 3).
 ghost use Rattle.std.specs.Prelude.{◌≡◌, ℕ, ◌≤◌, length};
 ghost use Rattle.format.specs.Header.{header_size, header_entries2, identity_entries2, opaque_entries, is_opaque};
-ghost use Rattle.format.specs.Strip.{encode};
+ghost use Rattle.format.specs.Strip.{direct, encode};
 ghost use Rattle.strip_put.specs.Writer.{HasRoom, Writes};
 
 use crate::{INSTANCE_LENGTH, LsaHeader, LsaPart, push_instance_fields};
@@ -15,6 +15,11 @@ use strip_put::Writer;
 const FIELDS_LENGTH: usize = U16_LENGTH + 2 * U8_LENGTH + 2 * IPV4_LENGTH + INSTANCE_LENGTH;
 
 const OPAQUE_FIELDS_LENGTH: usize = FIELDS_LENGTH + U8_LENGTH + U32_LENGTH;
+
+// And how many.
+const FIELDS: u8 = 8;
+
+const OPAQUE_FIELDS: u8 = FIELDS + 2;
 
 pub fn is_opaque(ls_type: u8) -> bool
     ensures { result ≡ is_opaque ls_type }
@@ -35,15 +40,20 @@ pub fn measure_lsa_header_fields(lsa: &[u8]) -> usize
     }
 }
 
+// Answers how many entries that is.
 #[inline(always)]
-pub fn push_lsa_header_fields(strip: &mut Writer, lsa: LsaPart)
+pub fn push_lsa_header_fields(strip: &mut Writer, lsa: LsaPart) -> u8
     requires { HasRoom strip.old (length (encode (header_entries2 lsa.part.bytes.now lsa.part.offset))) }
-    ensures { Writes strip.old (encode (header_entries2 lsa.entry.part.bytes.now lsa.entry.part.offset)) strip.new }
+    ensures wrote { Writes strip.old (encode (header_entries2 lsa.entry.part.bytes.now lsa.entry.part.offset)) strip.new }
+    ensures entries_value { result ≡ direct 0 (header_entries2 lsa.entry.part.bytes.now lsa.entry.part.offset) }
 {
     push_identity_fields(strip, lsa);
     push_instance_fields(strip, v2::LS_SEQUENCE_NUMBER, lsa);
     if is_opaque(lsa.part.bytes[LsaHeader::V2_TYPE_AT]) {
         push_opaque_fields(strip, lsa);
+        OPAQUE_FIELDS
+    } else {
+        FIELDS
     }
 }
 

@@ -16,7 +16,7 @@ use strip_put::{Part, Writer};
 use strip_step::{Entry, step_at};
 
 pub fn run(to: &mut impl Write) -> io::Result<()> {
-    let mut strip = [0u8; 126];
+    let mut strip = [0u8; 130];
     kinds(&mut Writer::new(&mut strip, 0));
     word(to, b"kinds\n")?;
     print_strip(to, &strip)?;
@@ -37,9 +37,9 @@ pub fn run(to: &mut impl Write) -> io::Result<()> {
 
 // One entry of each kind, with the largest numbers, and the first of them around the others.
 fn kinds(strip: &mut Writer)
-    requires { HasRoom strip.old 126 }
+    requires { HasRoom strip.old 130 }
 {
-    begin_container(strip, 255, 4294967295..4294967295);
+    begin_container(strip, 255, 4294967295..4294967295, 4294967295);
     push_field(strip, 1, 0..1, FieldValue::U8(255));
     push_field(strip, 2, 1..3, FieldValue::U16(65535));
     push_field(strip, 3, 3..7, FieldValue::U32(4294967295));
@@ -94,7 +94,7 @@ fn refusals(to: &mut impl Write) -> io::Result<()> {
     print_step(to, b"\x00", 0)?;
     print_step(to, b"\x0b", 0)?;
     print_step(to, b"\xff", 0)?;
-    print_step(to, b"\x01........", 0)?;
+    print_step(to, b"\x01............", 0)?;
     print_step(to, b"\x03.........", 0)?;
     print_step(to, b"\x04..........", 0)?;
     print_step(to, b"\x05............", 0)?;

@@ -1,10 +1,11 @@
 // A whole LSA, whatever its version: the header, the body, and what is left of that, pushed and measured.
 #![tactic(auto, using(body::proofs::Laws::length_lsa), unfolding(crate::specs::Whole::whole))]
 
-ghost use Rattle.std.specs.Prelude.{◌≡◌, ℕ, ◌*◌, ◌≤◌, List, length};
+ghost use Rattle.std.specs.Prelude.{◌≡◌, ℕ, ◌+◌, ◌*◌, ◌≤◌, List, length, drop};
 ghost use Rattle.format.specs.Body as format;
 ghost use Rattle.format.specs.Header.{header_size};
-ghost use Rattle.format.specs.Strip.{Entry, encode};
+ghost use Rattle.format.specs.Body.{own_of, rest_of};
+ghost use Rattle.format.specs.Strip.{Entry, direct, encode};
 ghost use Rattle.body.specs.Answers.{Pushed, bytes_of, measured_of};
 ghost use Rattle.lsa.specs.Whole.{tail, whole};
 ghost use Rattle.strip_put.specs.Writer.{HasRoom, Writes};
@@ -28,9 +29,11 @@ pub trait Version {
     // The body of an LSA, by the LSA's bytes and place.
     ghost body: { List ℕ → ℕ → format.Body };
 
-    fn push_header(strip: &mut Writer, lsa: LsaPart)
+    // Answers how many entries that is, those inside containers left out.
+    fn push_header(strip: &mut Writer, lsa: LsaPart) -> u8
         requires { HasRoom strip.old (length (encode (header lsa.part.bytes.now lsa.part.offset))) }
-        ensures { Writes strip.old (encode (header lsa.entry.part.bytes.now lsa.entry.part.offset)) strip.new };
+        ensures wrote { Writes strip.old (encode (header lsa.entry.part.bytes.now lsa.entry.part.offset)) strip.new }
+        ensures entries_value { result ≡ direct 0 (header lsa.entry.part.bytes.now lsa.entry.part.offset) };
 
     fn push_body(strip: &mut Writer, lsa: LsaPart) -> Body
         requires { HasRoom strip.old (length (bytes_of (body lsa.part.bytes.now lsa.part.offset))) }
@@ -43,19 +46,30 @@ pub trait Version {
     fn measure_body(lsa: LsaPart) -> Measured
         ensures { (o : ℕ) → result ≡ measured_of (body lsa.entry.part.bytes.now o) };
 
-    // No LSA takes more than eighteen bytes of a strip for each of its own.
-    ghost bound: { (d : List ℕ) (o : ℕ) → header_size ≤ length d → length (encode (whole header BODY UNPARSED body d o)) ≤ 18 * length d };
+    // No LSA takes more than nineteen bytes of a strip for each of its own.
+    ghost bound: { (d : List ℕ) (o : ℕ) → header_size ≤ length d → length (encode (whole header BODY UNPARSED body d o)) ≤ 19 * length d };
+
+    // The entries of an LSA are those of its header, its body's own, and what is left of that.
+    ghost parts: { (d : List ℕ) (o : ℕ) → direct 0 (whole header BODY UNPARSED body d o) ≡ direct 0 (header d o) + (direct 0 (own_of (body d o)) + direct 0 (rest_of BODY UNPARSED (body d o) (drop header_size d) (o + header_size))) };
 }
 
-pub fn push_lsa<V: Version>(strip: &mut Writer, lsa: LsaPart)
+// Answers how many entries that is, those inside containers left out.
+pub fn push_lsa<V: Version>(strip: &mut Writer, lsa: LsaPart) -> u32
     requires { HasRoom strip.old (length (encode (whole V.header V.BODY V.UNPARSED V.body lsa.part.bytes.now lsa.part.offset))) }
-    ensures { Writes strip.old (encode (whole V.header V.BODY V.UNPARSED V.body lsa.entry.part.bytes.now lsa.entry.part.offset)) strip.new }
+    ensures wrote { Writes strip.old (encode (whole V.header V.BODY V.UNPARSED V.body lsa.entry.part.bytes.now lsa.entry.part.offset)) strip.new }
+    ensures entries_value { result ≡ direct 0 (whole V.header V.BODY V.UNPARSED V.body lsa.entry.part.bytes.now lsa.entry.part.offset) }
 {
-    V::push_header(strip, lsa);
+    let header = V::push_header(strip, lsa);
     let body = lsa.part.rest(LsaHeader::SIZE);
     match V::push_body(strip, lsa) {
-        Body::Decoded { consumed } => push_unparsed(strip, V::UNPARSED, body, consumed),
-        Body::Raw => push_unparsed(strip, V::BODY, body, 0),
+        Body::Decoded { entries, consumed } => {
+            let rest = push_unparsed(strip, V::UNPARSED, body, consumed);
+            u32::from(header) + u32::from(entries) + u32::from(rest)
+        }
+        Body::Raw => {
+            let rest = push_unparsed(strip, V::BODY, body, 0);
+            u32::from(header) + u32::from(rest)
+        }
     }
 }
 
@@ -63,7 +77,7 @@ pub fn push_lsa<V: Version>(strip: &mut Writer, lsa: LsaPart)
 pub fn measure_lsa<V: Version>(lsa: LsaPart) -> Lsa
     ensures by_index { (o : ℕ) → result.length ≡ length (encode (whole V.header V.BODY V.UNPARSED V.body lsa.entry.part.bytes.now o)) }
     ensures tail_value { result.tail ≡ tail V.body lsa.entry.part.bytes.now }
-    ensures upper_bound { result.length ≤ 18 * length lsa.entry.part.bytes.now }
+    ensures upper_bound { result.length ≤ 19 * length lsa.entry.part.bytes.now }
 {
     let header = V::measure_header(lsa);
     let body = lsa.part.rest(LsaHeader::SIZE);

@@ -22,7 +22,7 @@ length_valued w i s e v h k = let f = length-field w i s e h in rw length-append
 
 -- with the line's end a text fits into the room of a line
 pub text_fits : (x : Entry) → length (text x) < line_room
-text_fits (opens i s e) = let f = length-field open_word i s e (omega arith) in omega arith
+text_fits (opens i s e n) = length_valued open_word i s e (spaced n) (omega arith) (let l = length-spaced n in omega arith)
 text_fits closes = omega arith
 text_fits (u8 i s e v) = length_valued u8_word i s e (spaced v) (omega arith) (let l = length-spaced v in omega arith)
 text_fits (u16 i s e v) = length_valued u16_word i s e (spaced v) (omega arith) (let l = length-spaced v in omega arith)

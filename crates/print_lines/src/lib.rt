@@ -78,7 +78,7 @@ fn put_text(out: &mut Writer<'_>, entry: Entry)
     ensures { Writes out.old (text (entry_meaning entry)) out.new }
 {
     match entry {
-        Entry::Open(f) => put_field(out, b"open", f),
+        Entry::Open(f, entries) => put_number(out, b"open", f, entries as u64),
         Entry::Close => out.put(b"close"),
         Entry::U8(f, value) => put_number(out, b"u8", f, value as u64),
         Entry::U16(f, value) => put_number(out, b"u16", f, value as u64),

@@ -5,7 +5,7 @@ ghost use Rattle.std.specs.Prelude.{◌≡◌, length};
 pub const FILE: usize = 1048576;
 
 // The length of the longest strip of all: no call needs more room.
-pub const ROOM: usize = 1162790;
+pub const ROOM: usize = 1228294;
 
 pub fn buffer<const N: usize>() -> [u8; N]
     ensures { N ≡ length result }

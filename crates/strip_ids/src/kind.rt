@@ -39,8 +39,9 @@ impl TryFrom<u8> for Kind {
     }
 }
 
-// How many bytes a kind's body has: the id, start and end of every kind but a close, then the value.
-pub const OPEN_BODY: usize = 9;
+// How many bytes a kind's body has: the id, start and end of every kind but a close, then the value, or the number of entries in a
+// container.
+pub const OPEN_BODY: usize = 13;
 
 pub const CLOSE_BODY: usize = 0;
 

@@ -7,6 +7,7 @@ ghost use Rattle.format.specs.Strip.{Entry, head, code, bit_at, low_bits_at, met
 ghost use Rattle.format.specs.Prefix.{ip6_at};
 ghost use Rattle.strip_ids.specs.Kind.{number_of};
 ghost use Rattle.strip_put.specs.Writer.{HasRoom, Writes};
+ghost use Rattle.strip_push.specs.Finishes.{Finishes};
 ghost use Rattle.strip_push.specs.Values.{entry_of};
 
 use field::Field;
@@ -44,13 +45,15 @@ fn push_head(strip: &mut Writer, kind: Kind, id: u8, range: Range<u32>)
     strip.put_u32(range.end);
 }
 
+// The opening of a container, which says how many entries are directly inside.
 #[inline(always)]
-pub fn begin_container(strip: &mut Writer, id: u8, range: Range<u32>)
-    requires { HasRoom strip.old 10 }
-    ensures { Writes strip.old (code (Entry.opens id range.start range.end)) strip.new }
+pub fn begin_container(strip: &mut Writer, id: u8, range: Range<u32>, entries: u32)
+    requires { HasRoom strip.old 14 }
+    ensures { Writes strip.old (code (Entry.opens id range.start range.end entries)) strip.new }
 {
     let mut out = Writer::new(&mut *strip.buffer, strip.at);
     push_head(&mut out, Kind::Open, id, range);
+    out.put_u32(entries);
     strip.at = out.at;
 }
 
@@ -59,6 +62,21 @@ pub fn end_container(strip: &mut Writer)
     ensures { Writes strip.old (code Entry.closes) strip.new }
 {
     strip.put_u8(Kind::Close as u8);
+}
+
+// Ends a container whose opening was left out at `opening`, and writes that there: its end or the number of its entries was not
+// known before.
+#[inline(always)]
+pub fn finish_container(strip: &mut Writer, opening: usize, id: u8, range: Range<u32>, entries: u32)
+    requires opening_bound { opening + 14 ≤ strip.old.at }
+    requires room { HasRoom strip.old 1 }
+    ensures { Finishes strip.old opening id range.start range.end entries strip.new }
+{
+    let close = strip.at;
+    strip.at = opening;
+    begin_container(strip, id, range, entries);
+    strip.at = close;
+    end_container(strip);
 }
 
 // Inlined, so that the compiler sees which value it is; and by a writer of its own, since of one that was handed in the compiler

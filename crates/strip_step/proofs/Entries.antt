@@ -7,7 +7,7 @@ use Rattle.strip_step.specs.declared.Entry.{Entry}
 use Rattle.strip_step.specs.declared.Entry.TheVariants as E
 
 pub entry_meant : (x : strip.Entry) → entry_meaning (entry_of x) ≡ x
-entry_meant (opens i s e) = refl
+entry_meant (opens i s e n) = refl
 entry_meant closes = refl
 entry_meant (u8 i s e v) = refl
 entry_meant (u16 i s e v) = refl
@@ -19,7 +19,7 @@ entry_meant (unreachable i s e) = refl
 entry_meant (u64 i s e v) = refl
 
 pub entry_back : (x : Entry) → entry_of (entry_meaning x) ≡ x
-entry_back (E.Open f) = refl
+entry_back (E.Open f n) = refl
 entry_back E.Close = refl
 entry_back (E.U8 f v) = refl
 entry_back (E.U16 f v) = refl

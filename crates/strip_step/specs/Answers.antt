@@ -18,7 +18,7 @@ abbrev pub field_of : (id start end : ℕ) → Field
 field_of i s e = record { id = i; start = s; end = e }
 
 abbrev pub entry_of : strip.Entry → Entry
-entry_of (opens i s e) = E.Open (field_of i s e)
+entry_of (opens i s e n) = E.Open (field_of i s e) n
 entry_of closes = E.Close
 entry_of (u8 i s e v) = E.U8 (field_of i s e) v
 entry_of (u16 i s e v) = E.U16 (field_of i s e) v
@@ -31,7 +31,7 @@ entry_of (u64 i s e v) = E.U64 (field_of i s e) v
 
 -- What an entry of the code says.
 abbrev pub entry_meaning : Entry → strip.Entry
-entry_meaning (E.Open f) = opens f.id f.start f.end
+entry_meaning (E.Open f n) = opens f.id f.start f.end n
 entry_meaning E.Close = closes
 entry_meaning (E.U8 f v) = u8 f.id f.start f.end v
 entry_meaning (E.U16 f v) = u16 f.id f.start f.end v

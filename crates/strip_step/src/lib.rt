@@ -23,11 +23,11 @@ pub struct Field {
     pub end: u32,
 }
 
-// An entry: its field, and the value. An IPv4 address is the number of its bytes, an IPv6 address the numbers of its two
-// halves.
+// An entry: its field, and the value, or of an opening the number of entries directly inside. An IPv4 address is the number of its
+// bytes, an IPv6 address the numbers of its two halves.
 #[derive(Clone, Copy, PartialEq, Eq, Debug)]
 pub enum Entry {
-    Open(Field),
+    Open(Field, u32),
     Close,
     U8(Field, u8),
     U16(Field, u16),
@@ -82,7 +82,7 @@ fn entry_at(kind: Kind, strip: &[u8], q: usize) -> Entry
     ensures { entry_meaning result ≡ entry_at (number_of kind) strip.now q }
 {
     match kind {
-        Kind::Open => Entry::Open(field_at(strip, q)),
+        Kind::Open => Entry::Open(field_at(strip, q), read_be_u32(strip, q + 9)),
         Kind::Close => Entry::Close,
         Kind::U8 => Entry::U8(field_at(strip, q), strip[q + 9]),
         Kind::U16 => Entry::U16(field_at(strip, q), read_be_u16(strip, q + 9)),

@@ -1,6 +1,6 @@
 // trailer.rs: the blocks that stand after an OSPF packet, into a strip. The LLS data block (RFC 5613 2.2), and the
 // authentication trailer of OSPFv3 (RFC 7166 4.1).
-#![tactic(auto, unfolding(format::specs::Strip::code, format::specs::Strip::encode, format::specs::Strip::container, format::specs::Trailer::lls_entries, format::specs::Trailer::auth_trailer_entries))]
+#![tactic(auto, unfolding(format::specs::Strip::code, format::specs::Strip::direct, format::specs::Strip::encode, format::specs::Strip::container, format::specs::Trailer::lls_entries, format::specs::Trailer::auth_trailer_entries))]
 
 ghost use Rattle.std.specs.Prelude.{◌≡◌, ℕ, ◌≤◌, ◌<◌, List, length};
 ghost use Rattle.std.proofs.Common.{rules};
@@ -114,7 +114,7 @@ impl Trailing for Lls {
 
     const STRIP: usize = CONTAINER_LENGTH + 2 * U16_LENGTH + BYTES_LENGTH;
 
-    ghost STRIP = { 45 };
+    ghost STRIP = { 49 };
 
     ghost rule = { lls_rule };
 
@@ -140,7 +140,7 @@ impl Trailing for Lls {
     }
 
     fn push(strip: &mut Writer, data: Part, len: usize) {
-        begin_container(strip, block::LLS, data.range(0, len));
+        begin_container(strip, block::LLS, data.range(0, len), 3);
         push_at::<U16>(strip, block::LLS_CHECKSUM, data, 0);
         push_at::<U16>(strip, block::LLS_DATA_LENGTH, data, 2);
         push_bytes_at(
@@ -163,7 +163,7 @@ impl Trailing for AuthTrailer {
 
     const STRIP: usize = CONTAINER_LENGTH + 3 * U16_LENGTH + U64_LENGTH + BYTES_LENGTH;
 
-    ghost STRIP = { 75 };
+    ghost STRIP = { 79 };
 
     ghost rule = { auth_trailer_rule };
 
@@ -181,7 +181,7 @@ impl Trailing for AuthTrailer {
     }
 
     fn push(strip: &mut Writer, data: Part, len: usize) {
-        begin_container(strip, block::AUTH_TRAILER, data.range(0, len));
+        begin_container(strip, block::AUTH_TRAILER, data.range(0, len), 5);
         push_at::<U16>(strip, block::AUTH_TYPE, data, 0);
         push_at::<U16>(strip, block::AUTH_DATA_LEN, data, 2);
         push_at::<U16>(strip, block::SA_ID, data, 6);

@@ -1,13 +1,14 @@
 // LSAs of version 2 into a strip: RFC 2328 A.4. The bodies of Network-LSAs (A.4.3) and of opaque LSAs (RFC 5250) are here,
 // those of the other types in `v2_router` and `v2_routes`. A body is pushed up to the place that its layout covers; the
 // bytes after it, or the whole of a raw body, are one entry.
-#![tactic(auto, unfolding(format::specs::Strip::code, format::specs::Strip::encode, format::specs::V2::network_lsa2, format::specs::V2::opaque_lsa, format::specs::V2::body2))]
+#![tactic(auto, unfolding(format::specs::Strip::code, format::specs::Strip::direct, format::specs::Strip::encode, format::specs::V2::network_lsa2, format::specs::V2::opaque_lsa, format::specs::V2::body2))]
 
 ghost use Rattle.std.specs.Prelude.{◌≡◌, get_or, length};
-ghost use Rattle.format.specs.Strip.{encode};
+ghost use Rattle.format.specs.Strip.{direct, encode};
 ghost use Rattle.format.specs.Header.{header_entries2};
 ghost use Rattle.format.specs.V2.{body2, body_of2, lsa_entries2, network_lsa2, opaque_has_tlvs, opaque_lsa, raw_id2, unparsed_id2};
 ghost use Rattle.lsa.proofs.Bounds.{bound2};
+ghost use Rattle.lsa.proofs.Parts.{parts2};
 ghost use Rattle.body.specs.Answers.{Pushed, bytes_of};
 ghost use Rattle.strip_put.specs.Writer.{HasRoom, Writes};
 
@@ -25,13 +26,14 @@ use v2_routes::{push_external_lsa, push_summary_lsa};
 
 pub mod measure;
 
-// A whole LSA: its header, its body, and what is left of that.
+// A whole LSA: its header, its body, and what is left of that. Answers how many entries that is, those inside containers left out.
 #[tactic(auto, unfolding(format::specs::V2::lsa_entries2, lsa::specs::Whole::whole))]
-pub fn push_lsa(strip: &mut Writer, lsa: LsaPart)
+pub fn push_lsa(strip: &mut Writer, lsa: LsaPart) -> u32
     requires { HasRoom strip.old (length (encode (lsa_entries2 lsa.part.bytes.now lsa.part.offset))) }
-    ensures { Writes strip.old (encode (lsa_entries2 lsa.entry.part.bytes.now lsa.entry.part.offset)) strip.new }
+    ensures wrote { Writes strip.old (encode (lsa_entries2 lsa.entry.part.bytes.now lsa.entry.part.offset)) strip.new }
+    ensures entries_value { result ≡ direct 0 (lsa_entries2 lsa.entry.part.bytes.now lsa.entry.part.offset) }
 {
-    lsa::push_lsa::<Ospfv2>(strip, lsa);
+    lsa::push_lsa::<Ospfv2>(strip, lsa)
 }
 
 struct Ospfv2;
@@ -50,8 +52,8 @@ impl Version for Ospfv2 {
 
     ghost body = { body_of2 };
 
-    fn push_header(strip: &mut Writer, lsa: LsaPart) {
-        push_lsa_header_fields(strip, lsa);
+    fn push_header(strip: &mut Writer, lsa: LsaPart) -> u8 {
+        push_lsa_header_fields(strip, lsa)
     }
 
     fn push_body(strip: &mut Writer, lsa: LsaPart) -> Body {
@@ -69,6 +71,8 @@ impl Version for Ospfv2 {
     }
 
     ghost bound = { bound2 };
+
+    ghost parts = { parts2 };
 }
 
 // The LS type, and the opaque type, which an opaque LSA has.
@@ -107,6 +111,7 @@ fn push_network_lsa(strip: &mut Writer, body: Part) -> Body
     }
     push_at::<Ipv4>(strip, v2::NETWORK_MASK, body, 0);
     Body::Decoded {
+        entries: 2,
         consumed: push_attached_routers(strip, v2::ATTACHED_ROUTERS, body),
     }
 }
@@ -128,6 +133,7 @@ fn push_opaque_lsa(strip: &mut Writer, opaque_type: u8, body: Part) -> Body
     }
     push_bytes_at(strip, v2::TLVS, body, 0, body.len());
     Body::Decoded {
+        entries: 1,
         consumed: body.len(),
     }
 }

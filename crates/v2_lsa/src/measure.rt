@@ -17,7 +17,7 @@ use v2_routes::measure::{measure_external_lsa, measure_summary_lsa};
 pub fn measure_lsa(lsa: LsaPart) -> Lsa
     ensures by_index { (o : ℕ) → result.length ≡ length (encode (lsa_entries2 lsa.entry.part.bytes.now o)) }
     ensures tail_value { result.tail ≡ lsa_tail2 lsa.entry.part.bytes.now }
-    ensures upper_bound { result.length ≤ 18 * length lsa.entry.part.bytes.now }
+    ensures upper_bound { result.length ≤ 19 * length lsa.entry.part.bytes.now }
 {
     lsa::measure_lsa::<Ospfv2>(lsa)
 }

@@ -1,12 +1,13 @@
 // The Router-LSA of version 2 into a strip, with its links and their TOS metrics: RFC 2328 A.4.2, and RFC 3101 for the Nt
 // bit.
-#![tactic(auto, unfolding(format::specs::Strip::code, format::specs::Strip::encode, format::specs::Strip::container, format::specs::V2::link_tos, format::specs::V2::router_lsa2))]
+#![tactic(auto, unfolding(format::specs::Strip::code, format::specs::Strip::direct, format::specs::Strip::encode, format::specs::Strip::container, format::specs::V2::link_tos, format::specs::V2::router_lsa2))]
 
 ghost use Rattle.std.specs.Prelude.{◌+◌, ◌≤◌, length};
 ghost use Rattle.std.proofs.Common.{rules};
 ghost use Rattle.format.specs.Strip.{encode};
 ghost use Rattle.format.specs.Cut.{link_rule};
 ghost use Rattle.format.specs.V2.{link, link_fields, link_tos, router_lsa2};
+ghost use Rattle.format.proofs.Direct.{one_link_tos, one_link2};
 ghost use Rattle.format.proofs.Rules.{link_inside_lem};
 ghost use Rattle.body.specs.Answers.{Pushed, bytes_of};
 ghost use Rattle.strip_put.specs.Writer.{HasRoom, Writes};
@@ -32,9 +33,11 @@ pub fn push_router_lsa(strip: &mut Writer, body: Part) -> Body
     }
     push_router_flags(strip, v2::FLAGS, body);
     push_at::<U16>(strip, v2::NUM_LINKS, body, 2);
-    let count = read_be_u16(body.bytes, 2);
+    let count = u32::from(read_be_u16(body.bytes, 2));
+    let consumed = push_list::<Link>(strip, v2::LINKS, body, 4, count);
     Body::Decoded {
-        consumed: push_list::<Link>(strip, v2::LINKS, body, 4, u32::from(count)),
+        entries: 7,
+        consumed,
     }
 }
 
@@ -66,9 +69,10 @@ impl Record for Link {
     }
 
     fn push(strip: &mut Writer, body: Part, p: usize, n: usize) {
-        begin_container(strip, LINK, body.range(p, n));
-        push_link_fields(strip, body, p);
         let num_tos = usize::from(body.bytes[p + 9]);
+        let arrays = if num_tos == 0 { 0 } else { 1 };
+        begin_container(strip, LINK, body.range(p, n), 5 + arrays);
+        push_link_fields(strip, body, p);
         push_array_if_any::<LinkTosMetric>(
             strip,
             v2::LINK_TOS_METRICS,
@@ -86,6 +90,8 @@ impl Record for Link {
     }
 
     ghost within = { λ b p n e. (link_inside_lem b p n e).0 };
+
+    ghost one = { one_link2 };
 }
 
 fn push_link_fields(strip: &mut Writer, body: Part, p: usize)
@@ -111,7 +117,7 @@ impl Item for LinkTosMetric {
     ghost entries = { link_tos };
 
     fn push(strip: &mut Writer, body: Part, p: usize) {
-        begin_container(strip, TOS_METRIC_OR_PREFIX, body.range(p, Self::SIZE));
+        begin_container(strip, TOS_METRIC_OR_PREFIX, body.range(p, Self::SIZE), 2);
         push_at::<U8>(strip, v2::TOS, body, p);
         // The metric in a link's TOS entry has 16 bits, after a byte of 0; those of other LSAs have 24.
         push_at::<Wide16>(strip, v2::TOS_METRIC, body, p + 2);
@@ -123,4 +129,6 @@ impl Item for LinkTosMetric {
     }
 
     ghost size_nonzero = { Prim.search rules };
+
+    ghost one = { one_link_tos };
 }

@@ -1,14 +1,16 @@
 // The LSAs of version 2 that describe a route to a destination outside the area, into a strip, with their TOS metrics:
 // RFC 2328 A.4.4 for Summary-LSAs, A.4.5 for AS-external-LSAs, RFC 3101 for type 7.
-#![tactic(auto, unfolding(format::specs::Strip::code, format::specs::Strip::encode, format::specs::Strip::container, format::specs::Body::whole, format::specs::V2::summary_tos, format::specs::V2::summary_lsa, format::specs::V2::external_tos, format::specs::V2::external_lsa2))]
+#![tactic(auto, unfolding(format::specs::Strip::code, format::specs::Strip::direct, format::specs::Strip::encode, format::specs::Strip::container, format::specs::Body::whole, format::specs::V2::summary_tos, format::specs::V2::summary_lsa, format::specs::V2::external_tos, format::specs::V2::external_lsa2))]
 
-ghost use Rattle.std.specs.Prelude.{◌≡◌, ◌≤◌, length};
+ghost use Rattle.std.specs.Prelude.{◌≡◌, ◌+◌, ◌≤◌, ◌<◌, cond, length, ltb};
 ghost use Rattle.std.proofs.Common.{rules};
 ghost use Rattle.format.specs.Cut.{after};
 ghost use Rattle.format.specs.Body.{listing_if_any, whole};
 ghost use Rattle.format.specs.Strip.{encode};
 ghost use Rattle.format.specs.V2.{external_fields, external_lsa2, external_tos, summary_lsa, summary_tos};
+ghost use Rattle.format.proofs.Direct.{one_summary_tos, one_external_tos};
 ghost use Rattle.body.specs.Answers.{Pushed, bytes_of};
+ghost use Rattle.body.specs.declared.Body.TheVariants.{Decoded};
 ghost use Rattle.strip_put.specs.Writer.{HasRoom, Writes};
 
 use body::Body;
@@ -37,9 +39,8 @@ pub fn push_summary_lsa(strip: &mut Writer, body: Part) -> Body
     }
     push_at::<Ipv4>(strip, v2::NETWORK_MASK, body, 0);
     push_metric24_at(strip, v2::METRIC, body, METRIC_AT);
-    Body::Decoded {
-        consumed: push_tos_metrics::<SummaryTosMetric>(strip, body, 8),
-    }
+    let consumed = push_tos_metrics::<SummaryTosMetric>(strip, body, 8);
+    decoded(2, 8, consumed)
 }
 
 // RFC 2328 A.4.5 and RFC 3101, types 5 and 7: Network Mask, the fields of TOS 0, TOS metrics.
@@ -51,9 +52,8 @@ pub fn push_external_lsa(strip: &mut Writer, body: Part) -> Body
         return Body::Raw;
     }
     push_external_fields(strip, body);
-    Body::Decoded {
-        consumed: push_tos_metrics::<ExternalTosMetric>(strip, body, 16),
-    }
+    let consumed = push_tos_metrics::<ExternalTosMetric>(strip, body, 16);
+    decoded(5, 16, consumed)
 }
 
 fn push_external_fields(strip: &mut Writer, body: Part)
@@ -66,6 +66,19 @@ fn push_external_fields(strip: &mut Writer, body: Part)
     push_metric24_at(strip, v2::METRIC, body, METRIC_AT);
     push_at::<Ipv4>(strip, v2::FORWARDING_ADDRESS, body, 8);
     push_at::<U32>(strip, v2::EXTERNAL_ROUTE_TAG, body, 12);
+}
+
+// A body of so many fields before the place `first`, from where its TOS metrics go up to `consumed`: their array is one entry more,
+// where there are any.
+fn decoded(fields: u8, first: usize, consumed: usize) -> Body
+    requires { fields < 255 }
+    ensures { result ≡ Decoded (fields + cond (ltb first consumed) 1 0) consumed }
+{
+    let arrays = if first < consumed { 1 } else { 0 };
+    Body::Decoded {
+        entries: fields + arrays,
+        consumed,
+    }
 }
 
 // The TOS metrics from a place on, as many as the body holds, if there are any. Answers the place where they end.
@@ -90,7 +103,7 @@ impl Item for SummaryTosMetric {
     ghost entries = { summary_tos };
 
     fn push(strip: &mut Writer, body: Part, p: usize) {
-        begin_container(strip, TOS_METRIC_OR_PREFIX, body.range(p, Self::SIZE));
+        begin_container(strip, TOS_METRIC_OR_PREFIX, body.range(p, Self::SIZE), 2);
         push_at::<U8>(strip, v2::TOS, body, p);
         push_metric24_at(strip, v2::TOS_METRIC, body, p + 1);
         end_container(strip);
@@ -101,6 +114,8 @@ impl Item for SummaryTosMetric {
     }
 
     ghost size_nonzero = { Prim.search rules };
+
+    ghost one = { one_summary_tos };
 }
 
 // A TOS metric of an external LSA.
@@ -114,7 +129,7 @@ impl Item for ExternalTosMetric {
     ghost entries = { external_tos };
 
     fn push(strip: &mut Writer, body: Part, p: usize) {
-        begin_container(strip, TOS_METRIC_OR_PREFIX, body.range(p, Self::SIZE));
+        begin_container(strip, TOS_METRIC_OR_PREFIX, body.range(p, Self::SIZE), 5);
         // The E bit and the TOS are in one byte.
         push_bit_at(strip, v2::TOS_FLAG_E, body, p, 0x80);
         push_low_bits_at(strip, v2::TOS, body, p, 0x80);
@@ -130,4 +145,6 @@ impl Item for ExternalTosMetric {
     }
 
     ghost size_nonzero = { Prim.search rules };
+
+    ghost one = { one_external_tos };
 }

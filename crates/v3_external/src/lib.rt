@@ -1,7 +1,7 @@
 // The part of v3_lsa.rs on the AS-External-LSA and the NSSA-LSA (RFC 5340 A.4.7, A.4.8).
 #![tactic(auto, unfolding(format::specs::Strip::code, format::specs::Strip::encode, format::specs::V3::external_lsa3))]
 
-ghost use Rattle.std.specs.Prelude.{◌≡◌, ℕ, ◌≤◌, length, MatchOption};
+ghost use Rattle.std.specs.Prelude.{◌≡◌, ℕ, ◌+◌, ◌≤◌, cond, length, MatchOption};
 ghost use Rattle.std.proofs.Math.Option.{some};
 ghost use Rattle.format.specs.Body.Body.{raw};
 ghost use Rattle.format.specs.Strip.{encode};
@@ -31,6 +31,7 @@ pub fn push_external_lsa(strip: &mut Writer, body: Part) -> Body
     external.push_prefix(strip);
     external.push_optional(strip);
     Body::Decoded {
+        entries: 9 + external.count_optional(),
         consumed: external.end,
     }
 }
@@ -103,6 +104,17 @@ impl<'a> External<'a> {
         push_at::<U8>(strip, v3::PREFIX_OPTIONS, self.body, 5);
         push_at::<U16>(strip, v3::REFERENCED_LS_TYPE, self.body, 6);
         push_ipv6_at(strip, v3::PREFIX, self.body, 8, self.octets);
+    }
+
+    // How many of the optional parts are present, each of which is one entry.
+    fn count_optional(self) -> u8
+        ensures count_value { let b = self.entry.body.bytes.now in result ≡ cond (has_forwarding b) 1 0 + (cond (has_tag b) 1 0 + cond (has_reference b) 1 0) }
+        ensures upper_bound { result ≤ 3 }
+    {
+        let forwarding = if self.forwarding { 1 } else { 0 };
+        let tag = if self.tag { 1 } else { 0 };
+        let reference = if self.reference { 1 } else { 0 };
+        forwarding + tag + reference
     }
 
     // Forwarding Address, External Route Tag and Referenced Link State ID, as present, in this order.

@@ -1,15 +1,17 @@
 // v3_lsa.rs: the entries of a version 3 LSA, by its function code (RFC 5340 A.4, RFC 7770 2.2, RFC 8362 2 and 4,
 // RFC 9513 7). The bodies with prefixes are in the crates `v3_prefix_lsa` and `v3_external`.
-#![tactic(auto, unfolding(format::specs::Strip::code, format::specs::Strip::encode, format::specs::Strip::container, format::specs::Body::whole, format::specs::V3::link, format::specs::V3::router_lsa3, format::specs::V3::network_lsa3, format::specs::V3::inter_area_router_lsa, format::specs::V3::tlv_lsa))]
+#![tactic(auto, unfolding(format::specs::Strip::code, format::specs::Strip::direct, format::specs::Strip::encode, format::specs::Strip::container, format::specs::Body::whole, format::specs::V3::link, format::specs::V3::router_lsa3, format::specs::V3::network_lsa3, format::specs::V3::inter_area_router_lsa, format::specs::V3::tlv_lsa))]
 
-ghost use Rattle.std.specs.Prelude.{◌≡◌, ◌≤◌, length};
+ghost use Rattle.std.specs.Prelude.{◌≡◌, ◌+◌, ◌≤◌, ◌<◌, [], length};
 ghost use Rattle.std.proofs.Common.{rules};
-ghost use Rattle.format.specs.Body.Body.{decoded};
-ghost use Rattle.format.specs.Strip.{encode};
-ghost use Rattle.format.specs.V3.{tlvs, link, router_lsa3, network_lsa3, inter_area_router_lsa, e_router_lsa, e_network_lsa, e_link_lsa, e_intra_area_prefix_lsa, body3, body_of3, function_code, lsa_entries3, raw_id3, unparsed_id3};
+ghost use Rattle.format.specs.Strip.{direct, encode};
+ghost use Rattle.format.specs.V3.{tlvs, tlv_lsa, link, router_lsa3, network_lsa3, inter_area_router_lsa, e_router_lsa, e_network_lsa, e_link_lsa, e_intra_area_prefix_lsa, body3, body_of3, function_code, lsa_entries3, raw_id3, unparsed_id3};
 ghost use Rattle.format.specs.Header.{header_entries3};
 ghost use Rattle.lsa.proofs.Bounds.{bound3};
+ghost use Rattle.lsa.proofs.Parts.{parts3};
+ghost use Rattle.format.proofs.Direct.{one_link3};
 ghost use Rattle.body.specs.Answers.{bytes_of, Pushed};
+ghost use Rattle.body.specs.declared.Body.TheVariants.{Decoded};
 ghost use Rattle.strip_put.specs.Writer.{HasRoom, Writes};
 
 use body::list::{Item, push_array};
@@ -32,13 +34,14 @@ use v3_prefix_lsa::{
 
 pub mod measure;
 
-// A whole LSA: its header, its body, and what is left of it.
+// A whole LSA: its header, its body, and what is left of it. Answers how many entries that is, those inside containers left out.
 #[tactic(auto, unfolding(format::specs::V3::lsa_entries3, lsa::specs::Whole::whole))]
-pub fn push_lsa(strip: &mut Writer, lsa: LsaPart)
+pub fn push_lsa(strip: &mut Writer, lsa: LsaPart) -> u32
     requires { HasRoom strip.old (length (encode (lsa_entries3 lsa.part.bytes.now lsa.part.offset))) }
-    ensures { Writes strip.old (encode (lsa_entries3 lsa.entry.part.bytes.now lsa.entry.part.offset)) strip.new }
+    ensures wrote { Writes strip.old (encode (lsa_entries3 lsa.entry.part.bytes.now lsa.entry.part.offset)) strip.new }
+    ensures entries_value { result ≡ direct 0 (lsa_entries3 lsa.entry.part.bytes.now lsa.entry.part.offset) }
 {
-    lsa::push_lsa::<Ospfv3>(strip, lsa);
+    lsa::push_lsa::<Ospfv3>(strip, lsa)
 }
 
 struct Ospfv3;
@@ -57,8 +60,8 @@ impl Version for Ospfv3 {
 
     ghost body = { body_of3 };
 
-    fn push_header(strip: &mut Writer, lsa: LsaPart) {
-        push_lsa_header_fields(strip, lsa);
+    fn push_header(strip: &mut Writer, lsa: LsaPart) -> u8 {
+        push_lsa_header_fields(strip, lsa)
     }
 
     fn push_body(strip: &mut Writer, lsa: LsaPart) -> Body {
@@ -74,6 +77,8 @@ impl Version for Ospfv3 {
     }
 
     ghost bound = { bound3 };
+
+    ghost parts = { parts3 };
 }
 
 // The function code: the LS type without its U bit and its scope (RFC 5340 A.4.2.1).
@@ -97,7 +102,7 @@ fn push_body(strip: &mut Writer, function: u16, body: Part) -> Body
         5 | 7 => push_external_lsa(strip, body),
         8 => push_link_lsa(strip, body),
         9 => push_intra_area_prefix_lsa(strip, body),
-        12 | 35 | 36 | 37 | 39 | 42 => push_tlv_body(strip, body, 0),
+        12 | 35 | 36 | 37 | 39 | 42 => push_tlv_lsa(strip, body),
         33 => push_e_router_lsa(strip, body),
         34 => push_e_network_lsa(strip, body),
         40 => push_e_link_lsa(strip, body),
@@ -106,15 +111,28 @@ fn push_body(strip: &mut Writer, function: u16, body: Part) -> Body
     }
 }
 
-// TLVs from p to the end of a body, which ends with them. They are not opened.
-fn push_tlv_body(strip: &mut Writer, body: Part, p: usize) -> Body
+// TLVs from p to the end of a body, which has so many fields before them, and ends with them. They are not opened.
+fn push_tlv_body(strip: &mut Writer, body: Part, p: usize, fields: u8) -> Body
     requires room { HasRoom strip.old (length (encode (tlvs body.bytes.now body.offset p))) }
     requires p_in_bounds { p ≤ length body.bytes.now }
-    ensures { Pushed (decoded (tlvs body.entry.bytes.now body.entry.offset p) (length body.entry.bytes.now)) strip.old strip.new result }
+    requires fields_bound { fields < 255 }
+    ensures answer { result ≡ Decoded (fields + 1) (length body.entry.bytes.now) }
+    ensures wrote { Writes strip.old (encode (tlvs body.entry.bytes.now body.entry.offset p)) strip.new }
 {
     let end = body.len();
     push_bytes_at(strip, v3::TLVS, body, p, end - p);
-    Body::Decoded { consumed: end }
+    Body::Decoded {
+        entries: fields + 1,
+        consumed: end,
+    }
+}
+
+// A body of TLVs alone.
+fn push_tlv_lsa(strip: &mut Writer, body: Part) -> Body
+    requires { HasRoom strip.old (length (bytes_of (tlv_lsa 0 [] body.bytes.now body.offset))) }
+    ensures { Pushed (tlv_lsa 0 [] body.entry.bytes.now body.entry.offset) strip.old strip.new result }
+{
+    push_tlv_body(strip, body, 0, 0)
 }
 
 // E-Router-LSA: flags, Options, TLVs (RFC 8362 4.1).
@@ -127,7 +145,7 @@ fn push_e_router_lsa(strip: &mut Writer, body: Part) -> Body
     }
     push_router_flags(strip, v3::FLAGS, body);
     push_options(strip, body);
-    push_tlv_body(strip, body, 4)
+    push_tlv_body(strip, body, 4, 6)
 }
 
 // E-Network-LSA: 0, Options, TLVs (RFC 8362 4.2).
@@ -139,7 +157,7 @@ fn push_e_network_lsa(strip: &mut Writer, body: Part) -> Body
         return Body::Raw;
     }
     push_options(strip, body);
-    push_tlv_body(strip, body, 4)
+    push_tlv_body(strip, body, 4, 1)
 }
 
 // E-Link-LSA: Rtr Priority, Options, TLVs (RFC 8362 4.7).
@@ -152,7 +170,7 @@ fn push_e_link_lsa(strip: &mut Writer, body: Part) -> Body
     }
     push_at::<U8>(strip, v3::ROUTER_PRIORITY, body, 0);
     push_options(strip, body);
-    push_tlv_body(strip, body, 4)
+    push_tlv_body(strip, body, 4, 2)
 }
 
 // E-Intra-Area-Prefix-LSA: 0, references, TLVs (RFC 8362 4.8).
@@ -164,7 +182,7 @@ fn push_e_intra_area_prefix_lsa(strip: &mut Writer, body: Part) -> Body
         return Body::Raw;
     }
     push_references(strip, body);
-    push_tlv_body(strip, body, 12)
+    push_tlv_body(strip, body, 12, 3)
 }
 
 // A link of a router (RFC 5340 A.4.3).
@@ -178,7 +196,7 @@ impl Item for Link {
     ghost entries = { link };
 
     fn push(strip: &mut Writer, body: Part, p: usize) {
-        begin_container(strip, LINK, body.range(p, Link::SIZE));
+        begin_container(strip, LINK, body.range(p, Link::SIZE), 5);
         push_at::<U8>(strip, v3::LINK_TYPE, body, p);
         push_at::<U16>(strip, v3::LINK_METRIC, body, p + 2);
         push_at::<U32>(strip, v3::INTERFACE_ID, body, p + 4);
@@ -192,6 +210,8 @@ impl Item for Link {
     }
 
     ghost size_nonzero = { Prim.search rules };
+
+    ghost one = { one_link3 };
 }
 
 // Router-LSA: flags, Options, and as many links as the body holds from 4 on (RFC 5340 A.4.3).
@@ -206,7 +226,10 @@ fn push_router_lsa(strip: &mut Writer, body: Part) -> Body
     push_options(strip, body);
     let count = (body.len() - 4) / Link::SIZE;
     let consumed = push_array::<Link>(strip, v3::LINKS, body, 4, count);
-    Body::Decoded { consumed }
+    Body::Decoded {
+        entries: 7,
+        consumed,
+    }
 }
 
 // Network-LSA: 0, Options, Attached Routers (RFC 5340 A.4.4).
@@ -219,7 +242,10 @@ fn push_network_lsa(strip: &mut Writer, body: Part) -> Body
     }
     push_options(strip, body);
     let consumed = push_attached_routers(strip, v3::ATTACHED_ROUTERS, body);
-    Body::Decoded { consumed }
+    Body::Decoded {
+        entries: 2,
+        consumed,
+    }
 }
 
 // Inter-Area-Router-LSA: 0, Options, 0, Metric, Destination Router ID (RFC 5340 A.4.6).
@@ -233,5 +259,8 @@ fn push_inter_area_router_lsa(strip: &mut Writer, body: Part) -> Body
     push_options(strip, body);
     push_metric24_at(strip, v3::METRIC, body, 5);
     push_at::<Ipv4>(strip, v3::DESTINATION_ROUTER_ID, body, 8);
-    Body::Decoded { consumed: 12 }
+    Body::Decoded {
+        entries: 3,
+        consumed: 12,
+    }
 }

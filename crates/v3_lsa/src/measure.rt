@@ -29,7 +29,7 @@ const E_LINK_LENGTH: usize = U8_LENGTH + OPTIONS_LENGTH;
 pub fn measure_lsa(lsa: LsaPart) -> Lsa
     ensures by_index { (o : ℕ) → result.length ≡ length (encode (lsa_entries3 lsa.entry.part.bytes.now o)) }
     ensures tail_value { result.tail ≡ lsa_tail3 lsa.entry.part.bytes.now }
-    ensures upper_bound { result.length ≤ 18 * length lsa.entry.part.bytes.now }
+    ensures upper_bound { result.length ≤ 19 * length lsa.entry.part.bytes.now }
 {
     lsa::measure_lsa::<Ospfv3>(lsa)
 }

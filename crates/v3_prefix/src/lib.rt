@@ -9,6 +9,7 @@ ghost use Rattle.format.specs.Strip.{encode};
 ghost use Rattle.format.specs.V3.{fixed_prefix_fits, prefix};
 ghost use Rattle.strip_put.specs.Writer.{HasRoom, Writes};
 ghost use Rattle.util.specs.Answers.{option_of};
+ghost use Rattle.format.proofs.Direct.{one_prefix};
 ghost use Rattle.format.proofs.Rules.{inside};
 
 use body::list::{Record, push_list};
@@ -44,7 +45,8 @@ impl<const WITH_METRIC: bool> Record for Prefix<WITH_METRIC> {
     }
 
     fn push(strip: &mut Writer, body: Part, p: usize, n: usize) {
-        begin_container(strip, TOS_METRIC_OR_PREFIX, body.range(p, n));
+        let entries = if WITH_METRIC { 4 } else { 3 };
+        begin_container(strip, TOS_METRIC_OR_PREFIX, body.range(p, n), entries);
         push_at::<U8>(strip, v3::LIST_PREFIX_LENGTH, body, p);
         push_at::<U8>(strip, v3::LIST_PREFIX_OPTIONS, body, p + 1);
         if WITH_METRIC {
@@ -60,6 +62,8 @@ impl<const WITH_METRIC: bool> Record for Prefix<WITH_METRIC> {
     }
 
     ghost within = { λ b p n e. (inside 4 _ b p n e).within };
+
+    ghost one = { λ b o s. one_prefix b o s WITH_METRIC };
 }
 
 // The prefixes from a place on, at most as many as the count. Answers the place where their list ends.

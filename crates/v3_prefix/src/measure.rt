@@ -17,7 +17,7 @@ pub fn measure_prefixes<const WITH_METRIC: bool>(
     requires { first ≤ length body.bytes.now }
     ensures by_index { (o : ℕ) → result.length ≡ length (encode (listing 29 (prefix WITH_METRIC body.entry.bytes.now o) o first (cut prefix_rule body.entry.bytes.now count first))) }
     ensures end_value { result.end ≡ after first (cut prefix_rule body.entry.bytes.now count first) }
-    ensures length_bound { result.length ≤ 11 + 32 * length body.entry.bytes.now }
+    ensures length_bound { result.length ≤ 15 + 32 * length body.entry.bytes.now }
 {
     measure_list::<Prefix<WITH_METRIC>>(body, first, count)
 }

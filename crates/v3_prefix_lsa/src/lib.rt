@@ -51,7 +51,10 @@ pub fn push_inter_area_prefix_lsa(strip: &mut Writer, body: Part) -> Body
     push_at::<U8>(strip, v3::PREFIX_LENGTH, body, 4);
     push_at::<U8>(strip, v3::PREFIX_OPTIONS, body, 5);
     push_ipv6_at(strip, v3::PREFIX, body, 8, n);
-    Body::Decoded { consumed: 8 + n }
+    Body::Decoded {
+        entries: 4,
+        consumed: 8 + n,
+    }
 }
 
 // Link-LSA: Rtr Priority, Options, Link-local Interface Address, # prefixes, prefixes (RFC 5340 A.4.9).
@@ -68,7 +71,10 @@ pub fn push_link_lsa(strip: &mut Writer, body: Part) -> Body
     push_at::<U32>(strip, v3::NUM_PREFIXES, body, 20);
     let count = read_be_u32(body.bytes, 20);
     let consumed = push_prefixes::<false>(strip, body, 24, count);
-    Body::Decoded { consumed }
+    Body::Decoded {
+        entries: 5,
+        consumed,
+    }
 }
 
 // Intra-Area-Prefix-LSA: # Prefixes, references, prefixes with a metric (RFC 5340 A.4.10).
@@ -83,5 +89,8 @@ pub fn push_intra_area_prefix_lsa(strip: &mut Writer, body: Part) -> Body
     push_references(strip, body);
     let count = u32::from(read_be_u16(body.bytes, 0));
     let consumed = push_prefixes::<true>(strip, body, 12, count);
-    Body::Decoded { consumed }
+    Body::Decoded {
+        entries: 5,
+        consumed,
+    }
 }

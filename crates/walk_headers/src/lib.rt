@@ -6,6 +6,8 @@ ghost use Rattle.std.proofs.Math.Option.{some};
 ghost use Rattle.format.specs.Cut.{fixed_rule};
 ghost use Rattle.format.specs.Header.{header_size};
 ghost use Rattle.format.specs.Walks.{header_entries, headers_of};
+ghost use Rattle.format.proofs.Inside.{counts_nested};
+ghost use Rattle.format.proofs.NestedLsa.{nested_header};
 ghost use Rattle.format.proofs.Rules.{inside};
 ghost use Rattle.walk_answer.specs.Answers.{Promised};
 
@@ -50,15 +52,16 @@ impl<const VERSION: u8> Object for HeaderObject<VERSION> {
         (LsaHeader::SIZE <= body.len() - p).then_some(LsaHeader::SIZE)
     }
 
-    fn push(strip: &mut Writer, lsa: LsaPart) {
+    fn push(strip: &mut Writer, lsa: LsaPart) -> u32 {
         // A writer of its own: of one that was handed in, the compiler reads buffer and place again after every byte.
         let mut out = Writer::new(&mut *strip.buffer, strip.at);
-        if VERSION == 2 {
-            v2::push_lsa_header_fields(&mut out, lsa);
+        let entries = if VERSION == 2 {
+            v2::push_lsa_header_fields(&mut out, lsa)
         } else {
-            v3::push_lsa_header_fields(&mut out, lsa);
-        }
+            v3::push_lsa_header_fields(&mut out, lsa)
+        };
         strip.at = out.at;
+        u32::from(entries)
     }
 
     fn measure(lsa: LsaPart) -> usize {
@@ -72,4 +75,6 @@ impl<const VERSION: u8> Object for HeaderObject<VERSION> {
     ghost has_header = { λ b p n e. (inside header_size (λ c q. some header_size) b p n e).enough };
 
     ghost within = { λ b p n e. (inside header_size (λ c q. some header_size) b p n e).within };
+
+    ghost counts = { λ b o. counts_nested (nested_header VERSION b o) };
 }

@@ -2,7 +2,7 @@
 #![tactic(auto)]
 
 ghost use Rattle.std.specs.Prelude.{◌≡◌, ℕ, ◌*◌, ◌≤◌, length};
-ghost use Rattle.format.specs.Strip.{encode};
+ghost use Rattle.format.specs.Strip.{direct, encode};
 ghost use Rattle.format.specs.Walks.{lsa_entries, lsa_tail, lsa_of};
 ghost use Rattle.strip_put.specs.Writer.{HasRoom, Writes};
 ghost use Rattle.walk_answer.specs.Answers.{Promised};
@@ -31,7 +31,7 @@ pub fn push_lsa(version: u8, data: &[u8], offset: u64, strip: &mut [u8]) -> Resu
 pub fn measure_lsa(version: u8, lsa: LsaPart) -> Lsa
     ensures by_index { (o : ℕ) → result.length ≡ length (encode (lsa_entries version lsa.entry.part.bytes.now o)) }
     ensures tail_value { result.tail ≡ lsa_tail version lsa.entry.part.bytes.now }
-    ensures upper_bound { result.length ≤ 18 * length lsa.entry.part.bytes.now }
+    ensures upper_bound { result.length ≤ 19 * length lsa.entry.part.bytes.now }
 {
     if version == 2 {
         v2_lsa::measure::measure_lsa(lsa)
@@ -40,16 +40,19 @@ pub fn measure_lsa(version: u8, lsa: LsaPart) -> Lsa
     }
 }
 
-pub fn push_lsa_fields(strip: &mut Writer, version: u8, lsa: LsaPart)
+// Answers how many entries that is, those inside containers left out.
+pub fn push_lsa_fields(strip: &mut Writer, version: u8, lsa: LsaPart) -> u32
     requires { HasRoom strip.old (length (encode (lsa_entries version lsa.part.bytes.now lsa.part.offset))) }
-    ensures { Writes strip.old (encode (lsa_entries version lsa.entry.part.bytes.now lsa.entry.part.offset)) strip.new }
+    ensures wrote { Writes strip.old (encode (lsa_entries version lsa.entry.part.bytes.now lsa.entry.part.offset)) strip.new }
+    ensures entries_value { result ≡ direct 0 (lsa_entries version lsa.entry.part.bytes.now lsa.entry.part.offset) }
 {
     // A writer of its own: of one that was handed in, the compiler reads buffer and place again after every byte.
     let mut out = Writer::new(&mut *strip.buffer, strip.at);
-    if version == 2 {
-        v2_lsa::push_lsa(&mut out, lsa);
+    let entries = if version == 2 {
+        v2_lsa::push_lsa(&mut out, lsa)
     } else {
-        v3_lsa::push_lsa(&mut out, lsa);
-    }
+        v3_lsa::push_lsa(&mut out, lsa)
+    };
     strip.at = out.at;
+    entries
 }

@@ -7,6 +7,8 @@ ghost use Rattle.format.specs.Bytes.{be16_at};
 ghost use Rattle.format.specs.Cut.{record_rule};
 ghost use Rattle.format.specs.Walks.{lsa_entries, update_of};
 ghost use Rattle.format.specs.Header.{header_size};
+ghost use Rattle.format.proofs.Inside.{counts_nested};
+ghost use Rattle.format.proofs.NestedLsa.{nested_lsa};
 ghost use Rattle.format.proofs.Rules.{inside};
 ghost use Rattle.walk_answer.specs.Answers.{Promised};
 
@@ -54,8 +56,8 @@ impl<const VERSION: u8> Object for LsaObject<VERSION> {
         declared_length(body, p, LsaHeader::SIZE, LsaHeader::LENGTH_AT)
     }
 
-    fn push(strip: &mut Writer, lsa: LsaPart) {
-        push_lsa_fields(strip, VERSION, lsa);
+    fn push(strip: &mut Writer, lsa: LsaPart) -> u32 {
+        push_lsa_fields(strip, VERSION, lsa)
     }
 
     fn measure(lsa: LsaPart) -> usize {
@@ -65,4 +67,6 @@ impl<const VERSION: u8> Object for LsaObject<VERSION> {
     ghost has_header = { λ b p n e. (inside header_size (λ c q. some (be16_at c (q + 18))) b p n e).enough };
 
     ghost within = { λ b p n e. (inside header_size (λ c q. some (be16_at c (q + 18))) b p n e).within };
+
+    ghost counts = { λ b o. counts_nested (nested_lsa VERSION b o) };
 }

@@ -46,14 +46,14 @@ fn recorded(walk: Walk, data: &[u8], offset: u64) -> u64 {
 /// The blocks of a row, and room for the strip of any of them.
 struct Blocks {
     inputs: Vec<Input>,
-    strip: [u8; 75],
+    strip: [u8; 79],
 }
 
 impl Blocks {
     fn new(row: usize) -> Blocks {
         Blocks {
             inputs: blocks(row),
-            strip: [0; 75],
+            strip: [0; 79],
         }
     }
 

@@ -2,13 +2,14 @@
 
 use ospf_strip::{Entry, Strip};
 
-/// The sums of all ids, starts, ends and values, modulo 2^64.
+/// The sums of all ids, starts, ends, values and counts, modulo 2^64.
 #[derive(Clone, Copy, Default)]
 struct Sums {
     ids: u64,
     starts: u64,
     ends: u64,
     values: u64,
+    counts: u64,
 }
 
 impl Sums {
@@ -22,12 +23,14 @@ impl Sums {
             starts: self.starts.wrapping_add(range.start.into()),
             ends: self.ends.wrapping_add(range.end.into()),
             values: self.values.wrapping_add(value(entry)),
+            counts: self.counts.wrapping_add(entry.count().unwrap_or(0).into()),
         }
     }
 
     fn all(self) -> u64 {
         let places = self.starts.wrapping_add(self.ends);
-        self.ids.wrapping_add(places).wrapping_add(self.values)
+        let fields = self.values.wrapping_add(self.counts);
+        self.ids.wrapping_add(places).wrapping_add(fields)
     }
 }
 

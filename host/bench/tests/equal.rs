@@ -73,7 +73,7 @@ fn on_the_blocks() {
     for (row, (name, _, length, _)) in BLOCKS.into_iter().enumerate() {
         for input in blocks(row) {
             check(&input);
-            let answer = PORT.run(&input, &mut [0; 75]);
+            let answer = PORT.run(&input, &mut [0; 79]);
             let expected = if name.ends_with("absent") { 0 } else { length };
             assert_eq!(answer >> 32, (expected as u64) << 8, "{name}");
         }

@@ -57,7 +57,7 @@ pub fn generated() -> String {
             numbers,
         ),
         enumeration(
-            "How many bytes follow it: id, start and end of every kind but a close, then the value.",
+            "How many bytes follow it: id, start and end of every kind but a close, then the value, or the count of an open.",
             bodies,
         ),
         enumeration("The fields' ids in version 2.", fields(V2)),

@@ -21,6 +21,8 @@ pub struct Entry {
     /// An IPv6 address in two halves, the higher first; any other value in
     /// the second.
     pub value: (u64, u64),
+    /// Of an open entry.
+    pub count: u32,
     pub next: usize,
 }
 
@@ -35,6 +37,7 @@ mod library {
         pub next: usize,
         pub start: u32,
         pub end: u32,
+        pub count: u32,
         pub kind: u8,
         pub refused: u8,
         pub id: u8,
@@ -90,6 +93,7 @@ fn entry(step: &library::Step) -> Entry {
         start: step.start,
         end: step.end,
         value: (step.high, step.low),
+        count: step.count,
         next: step.next,
     }
 }
@@ -109,8 +113,8 @@ pub fn next_all(strip: &[u8]) -> (Vec<Entry>, u8) {
     (steps[..count].iter().map(entry).collect(), refused)
 }
 
-/// The sum of every id, start, end and value of a strip, modulo 2^64, by an
-/// ordinary loop over `ospf_next`; where an entry is refused, of those before it.
+/// The sum of every id, start, end, value and count of a strip, modulo 2^64, by
+/// an ordinary loop over `ospf_next`; where an entry is refused, of those before it.
 pub fn read_all(strip: &[u8]) -> u64 {
     // SAFETY: the function reads at most the `strip.len()` bytes of `strip`,
     // whatever they are; they live for the call, and it keeps no pointer.

@@ -31,6 +31,7 @@ uint64_t use(const uint8_t *strip, size_t length)
     while ((entry = ospf_next(strip, length, entry)).kind != 0) {
         sum += ospf_id(entry) + ospf_start(entry) + ospf_end(entry);
         switch (entry.kind) {
+        case OSPF_KIND_OPEN: sum += ospf_count(entry); break;
         case OSPF_KIND_U8: sum += ospf_u8(entry); break;
         case OSPF_KIND_U16: sum += ospf_u16(entry); break;
         case OSPF_KIND_U32: sum += ospf_u32(entry); break;

@@ -9,6 +9,7 @@ fn listed(kind: u8, id: u8, start: u32, end: u32) -> (String, Entry) {
     let (text, value) = match word {
         "u8" => (" 254", (0, 254)),
         "u16" => (" 65244", (0, 65_244)),
+        "open" => (" 4275878552", (0, 0)),
         "u32" => (" 4275878552", (0, 4_275_878_552)),
         "ip4" => (" 254.220.186.152", (0, 0xFEDC_BA98)),
         "ip6" => (
@@ -24,11 +25,15 @@ fn listed(kind: u8, id: u8, start: u32, end: u32) -> (String, Entry) {
         start,
         end,
         value,
+        count: 0,
         next: 1 + body,
     };
     if word == "close" {
         (entry.id, entry.start, entry.end) = (0, 0, 0);
         return (word.to_string(), entry);
+    }
+    if word == "open" {
+        entry.count = 4_275_878_552;
     }
     (format!("{word} {id} {start} {end}{text}"), entry)
 }
@@ -53,6 +58,7 @@ fn sum_of(entry: &Entry) -> u64 {
     range
         .wrapping_add(entry.value.0)
         .wrapping_add(entry.value.1)
+        .wrapping_add(entry.count.into())
 }
 
 #[test]

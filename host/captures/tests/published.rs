@@ -126,8 +126,8 @@ fn authentication_trailer_of_a_hello() {
     };
     assert_eq!((hello.after.len(), block), (48, 48));
     // The values of its four fields: an open before them, 10 bytes before each.
-    assert_eq!(strip[20..22], [0, 1]);
-    assert_eq!(strip[32..34], [0, 48]);
-    assert_eq!(strip[44..46], [0, 1]);
-    assert_eq!(strip[56..64], 0x52DA_4E0E_u64.to_be_bytes());
+    assert_eq!(strip[24..26], [0, 1]);
+    assert_eq!(strip[36..38], [0, 48]);
+    assert_eq!(strip[48..50], [0, 1]);
+    assert_eq!(strip[60..68], 0x52DA_4E0E_u64.to_be_bytes());
 }

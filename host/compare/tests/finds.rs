@@ -51,7 +51,7 @@ macro_rules! walks {
 
 /// Where each entry of a strip starts.
 fn places(strip: &[u8]) -> Vec<usize> {
-    let lengths = [0, 10, 1, 11, 12, 14, 14, 26, 10, 10, 18];
+    let lengths = [0, 14, 1, 11, 12, 14, 14, 26, 10, 10, 18];
     let mut places = Vec::new();
     let mut at = 0;
     while at < strip.len() {
@@ -104,6 +104,75 @@ fn tag_before_forwarding_address(call: &Call<'_>, strip: &mut [u8]) {
             let place = (u64::from(start) - call.offset) as usize;
             strip[tag + 10..tag + 14].copy_from_slice(&call.data[place..place + 4]);
         }
+    }
+}
+
+/// What stands in a container: the entries directly inside, how many of them are
+/// containers, and all entries at any depth.
+#[derive(Default)]
+struct Inside {
+    entries: u32,
+    containers: u32,
+    nested: u32,
+}
+
+/// Another count in each open entry of a strip.
+fn recounted(strip: &mut [u8], count: fn(&Inside) -> u32) {
+    let mut open: Vec<(usize, Inside)> = Vec::new();
+    for at in places(strip) {
+        if strip[at] == 2 {
+            let (at, inside) = open.pop().expect("a close has an open");
+            put(strip, at + 10, count(&inside));
+            if let Some((_, outer)) = open.last_mut() {
+                outer.nested += inside.nested;
+            }
+            continue;
+        }
+        let container = strip[at] == 1;
+        if let Some((_, outer)) = open.last_mut() {
+            outer.entries += 1;
+            outer.nested += 1;
+            outer.containers += u32::from(container);
+        }
+        if container {
+            open.push((at, Inside::default()));
+        }
+    }
+}
+
+fn count_with_closes(_: &Call<'_>, strip: &mut [u8]) {
+    recounted(strip, |inside| inside.entries + inside.containers);
+}
+
+fn count_with_its_own_close(_: &Call<'_>, strip: &mut [u8]) {
+    recounted(strip, |inside| inside.entries + 1);
+}
+
+fn count_at_any_depth(_: &Call<'_>, strip: &mut [u8]) {
+    recounted(strip, |inside| inside.nested);
+}
+
+fn count_without_containers(_: &Call<'_>, strip: &mut [u8]) {
+    recounted(strip, |inside| inside.entries - inside.containers);
+}
+
+/// The count of links or prefixes that the LSA has in its body.
+fn count_of_a_list_as_declared(call: &Call<'_>, strip: &mut [u8]) {
+    let mut declared = 0;
+    for at in places(strip) {
+        match (call.version, &strip[at..]) {
+            (2, [4, 15, ..]) => declared = number(strip, at + 8) & 0xFFFF,
+            (3, [5, 28, ..]) => declared = number(strip, at + 10),
+            (2, [1, 16, ..]) | (3, [1, 29, ..]) => put(strip, at + 10, declared),
+            _ => {}
+        }
+    }
+}
+
+/// The count of records that the update was asked for.
+fn count_of_records_as_asked(call: &Call<'_>, strip: &mut [u8]) {
+    if call.walk == Walk::Update {
+        put(strip, 10, call.count);
     }
 }
 
@@ -257,7 +326,7 @@ fn length_in_bytes(call: Call<'_>, strip: &mut [u8]) -> u64 {
     .run();
     if let (Walk::Lls, Outcome::Accepted { strip, .. }) = (call.walk, &mut outcome) {
         // The field itself is shown as it is.
-        strip[32..34].copy_from_slice(&call.data[2..4]);
+        strip[36..38].copy_from_slice(&call.data[2..4]);
     }
     outcome.lend(strip).packed()
 }
@@ -298,7 +367,8 @@ fn no_empty_tlvs(call: Call<'_>, strip: &mut [u8]) -> u64 {
         strip, block: 4, ..
     } = &mut outcome
     {
-        strip.drain(34..44);
+        strip.drain(38..48);
+        put(strip, 10, 2);
     }
     outcome.lend(strip).packed()
 }
@@ -315,7 +385,7 @@ fn absent_writes(call: Call<'_>, strip: &mut [u8]) -> u64 {
 /// An absent block refused for want of room.
 fn absent_needs_room(call: Call<'_>, strip: &mut [u8]) -> u64 {
     match call.run() {
-        Outcome::Absent if strip.len() < 45 => 0x05_0000_002D,
+        Outcome::Absent if strip.len() < 49 => 0x05_0000_0031,
         outcome => outcome.lend(strip).packed(),
     }
 }
@@ -434,11 +504,11 @@ fn lengths(found: &Difference) -> (u8, usize, u32, u32) {
 #[test]
 fn finds_numbers_as_unreachable() {
     // A container's open and close, and the fields around the number.
-    let header_list = 11 + 11 + 100 + 11 + 14;
-    let router_v3 = 90 + 5 * 11 + 14 + 11;
+    let header_list = 15 + 15 + 100 + 11 + 14;
+    let router_v3 = 90 + 5 * 11 + 14 + 15;
     let external_v2 = 100 + 14 + 11 + 14 + 14 + 14;
-    let router_v2 = 100 + 5 * 11 + 12 + 11 + 11 + 14 + 14 + 11 + 11 + 12;
-    let tos_entry = 11 + 11 + 11 + 14;
+    let router_v2 = 100 + 5 * 11 + 12 + 15 + 15 + 14 + 14 + 11 + 11 + 12;
+    let tos_entry = 15 + 15 + 11 + 14;
     let wrong = [
         (by_entry!(opaque_id_as_unreachable), (2, 20, header_list), 4),
         (by_entry!(options_as_unreachable), (3, 24, router_v3), 4),
@@ -500,9 +570,65 @@ fn finds_unreachable_measured_as_a_number() {
     assert_eq!(lengths(&found), (2, 28, SUMMARY, SUMMARY + 4));
 }
 
-/// The least data of a difference: the reading, and how many bytes.
+/// The least data of a difference: the walk or reading, and how many bytes.
 fn least(found: &Difference) -> (Walk, usize) {
     (found.input.walk, found.input.data.len())
+}
+
+/// The last byte of a count, from where its container opens.
+const COUNT: isize = 13;
+
+/// What the oracle has and what was found, in the last byte of the count of the
+/// container that opens at this place.
+fn counts(found: &Difference, open: isize) -> (u8, u8) {
+    let (at, expected, wrong) = found.byte.expect("a byte");
+    assert_eq!(at, open + COUNT, "{found}");
+    (expected, wrong)
+}
+
+#[test]
+fn finds_a_count_with_closes() {
+    let wrong = walks!(|call, strip: &mut [u8]| altered(call, strip, count_with_closes));
+    let found = find(wrong, Class::Truncated);
+    // One header, whose close is counted in the list.
+    assert_eq!(least(&found), (Walk::Headers, 20));
+    assert_eq!(counts(&found, 0), (1, 2));
+    let wrong = walks!(|call, strip: &mut [u8]| altered(call, strip, count_with_its_own_close));
+    let found = find(wrong, Class::Truncated);
+    assert_eq!(least(&found), (Walk::Headers, 0));
+    assert_eq!(counts(&found, 0), (0, 1));
+}
+
+#[test]
+fn finds_a_count_at_any_depth() {
+    let wrong = walks!(|call, strip: &mut [u8]| altered(call, strip, count_at_any_depth));
+    let found = find(wrong, Class::Truncated);
+    assert_eq!(least(&found), (Walk::Headers, 20));
+    // The header's fields beside it: of version 3, of version 2, or with an opaque id.
+    let (expected, wrong) = counts(&found, 0);
+    assert!(expected == 1 && [8, 9, 11].contains(&wrong), "{wrong}");
+}
+
+#[test]
+fn finds_a_count_without_containers() {
+    let wrong = walks!(|call, strip: &mut [u8]| altered(call, strip, count_without_containers));
+    let found = find(wrong, Class::Truncated);
+    assert_eq!(least(&found), (Walk::Headers, 20));
+    assert_eq!(counts(&found, 0), (1, 0));
+}
+
+#[test]
+fn finds_a_count_as_declared() {
+    let wrong = walks!(|call, strip: &mut [u8]| altered(call, strip, count_of_a_list_as_declared));
+    let found = find(wrong, Class::Count);
+    // A Router-LSA with no room for a link, after its flags and its number of links.
+    assert_eq!((found.input.version, found.input.data.len()), (2, 24));
+    assert_eq!(counts(&found, 100 + 5 * 11 + 12), (0, 1));
+    let wrong = walks!(|call, strip: &mut [u8]| altered(call, strip, count_of_records_as_asked));
+    let found = find(wrong, Class::Count);
+    // An update without an LSA, whose count says more.
+    assert_eq!(found.input.data.len(), 4);
+    assert_eq!(counts(&found, 0).0, 0);
 }
 
 #[test]
@@ -510,7 +636,7 @@ fn finds_a_length_in_bytes() {
     let found = find(walks!(length_in_bytes), Class::BlockLength);
     // A block of one word is missed.
     assert_eq!(least(&found), (Walk::Lls, 4));
-    assert_eq!((found.expected, found.found), (0x05_0000_002D, 0));
+    assert_eq!((found.expected, found.found), (0x05_0000_0031, 0));
 }
 
 #[test]
@@ -534,7 +660,7 @@ fn finds_a_sequence_number_as_32_bits() {
     let found = find(wrong, Class::Block);
     assert_eq!(found.input.walk, Walk::AuthTrailer);
     // After the object and three fields, the first byte of its value.
-    let at = 10 + 3 * 12 + 10;
+    let at = 14 + 3 * 12 + 10;
     assert_eq!(found.byte.map(|(at, _, found)| (at, found)), Some((at, 0)));
 }
 
@@ -544,14 +670,14 @@ fn finds_an_sa_id_at_4() {
     let found = find(wrong, Class::BlockLength);
     assert_eq!(least(&found), (Walk::AuthTrailer, 16));
     // The last byte of its start.
-    assert_eq!(found.byte.map(|(at, ..)| at), Some(10 + 2 * 12 + 5));
+    assert_eq!(found.byte.map(|(at, ..)| at), Some(14 + 2 * 12 + 5));
 }
 
 #[test]
 fn finds_missing_empty_tlvs() {
     let found = find(walks!(no_empty_tlvs), Class::BlockLength);
     assert_eq!(least(&found), (Walk::Lls, 4));
-    assert_eq!(found.found, 0x05_0000_0023);
+    assert_eq!(found.found, 0x05_0000_0027);
 }
 
 #[test]
@@ -600,6 +726,6 @@ fn prints_the_input() {
     let lines: Vec<&str> = printed.lines().collect();
     assert_eq!(lines[0], "class Random, version 2, walk Headers");
     assert_eq!(lines[1], "count 0, offset 24, room 0");
-    assert_eq!(lines[2], "answer 0x1234, expected 0x500000015");
+    assert_eq!(lines[2], "answer 0x1234, expected 0x500000019");
     assert_eq!(lines.last(), Some(&"data of 2 bytes: ab 01"));
 }

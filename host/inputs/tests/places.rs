@@ -15,9 +15,10 @@ fn whats(places: &Places) -> Vec<&'static str> {
 
 /// A summary's TOS list: each line is a metric's entry.
 fn summary(metrics: &[&str]) -> String {
-    let entry = |metric| format!("open 97 28 32\n u8 81 28 29 0\n {metric}\n close\n");
+    let entry = |metric| format!("open 97 28 32 2\n u8 81 28 29 0\n {metric}\n close\n");
     let entries: String = metrics.iter().map(entry).collect();
-    format!("u8 2 3 4 4\n never 19 25 28\n open 20 28 40\n {entries} close")
+    let count = metrics.len();
+    format!("u8 2 3 4 4\n never 19 25 28\n open 20 28 40 {count}\n {entries} close")
 }
 
 #[test]
@@ -61,7 +62,7 @@ fn tos_lists() {
 /// A router link's TOS metric is a number, though it has a TOS entry's id.
 #[test]
 fn numbers() {
-    let link = "u8 2 3 4 1\n u16 68 34 36 65535\n open 69 36 40\n open 97 36 40\n \
+    let link = "u8 2 3 4 1\n u16 68 34 36 65535\n open 69 36 40 1\n open 97 36 40 1\n \
                 u32 82 38 40 65535\n close\n close";
     assert_eq!(whats(&counted(2, link)), ["link TOS metric", "link metric"]);
     let less = link.replace("65535", "65534");

@@ -4,7 +4,8 @@
 //! small program prints) and shares no code with the oracle.
 //!
 //! ```
-//! assert_eq!(listing::strip("open 114 0 4294901760"), listing::hex("01 72 00000000 FFFF0000"));
+//! let open = listing::hex("01 72 00000000 FFFF0000 00000002");
+//! assert_eq!(listing::strip("open 114 0 4294901760 2"), open);
 //! assert_eq!(listing::strip("u16 6 16 18 4660"), listing::hex("04 06 00000010 00000012 1234"));
 //! let most = listing::strip("u64 147 8 16 18446744073709551615");
 //! assert_eq!(most, listing::hex("0A 93 00000008 00000010 FFFFFFFFFFFFFFFF"));
@@ -13,7 +14,7 @@
 
 /// The kinds: the number of each, its word, and how many bytes its body has.
 pub const KINDS: [(u8, &str, usize); 10] = [
-    (1, "open", 9),
+    (1, "open", 13),
     (2, "close", 0),
     (3, "u8", 10),
     (4, "u16", 11),

@@ -130,7 +130,7 @@ fn open_entries_have_the_final_end() {
     let Outcome::Accepted { strip, .. } = call.run() else {
         panic!("refused");
     };
-    assert_eq!(strip[..10], [1, 114, 0, 0, 0, 4, 0, 0, 0, 4]);
+    assert_eq!(strip[..14], [1, 114, 0, 0, 0, 4, 0, 0, 0, 4, 0, 0, 0, 0]);
 }
 
 /// `v2.rs` and `v3.rs` push `num_lsas` before they call; the strip starts
@@ -176,7 +176,7 @@ fn unparsed_has_the_id_of_the_lsa_table() {
         let Outcome::Accepted { strip, .. } = call.run() else {
             panic!("refused");
         };
-        assert_eq!(strip[11..13], [8, id as u8]);
+        assert_eq!(strip[15..17], [8, id as u8]);
     }
 }
 
@@ -208,7 +208,7 @@ fn tlvs_of_an_lls_block_are_one_range() {
     };
     let range = [8, 130, 0, 0, 0, 4, 0, 0, 0, 20, 2];
     assert_eq!(strip[strip.len() - 11..], range);
-    assert_eq!((strip.len(), tail), (10 + 12 + 12 + 10 + 1, 0));
+    assert_eq!((strip.len(), tail), (14 + 12 + 12 + 10 + 1, 0));
 }
 
 /// The reference reads a block in data of any length at any place.

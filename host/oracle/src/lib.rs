@@ -11,9 +11,9 @@
 //! use oracle::{Call, Walk};
 //!
 //! let call = Call { version: 2, walk: Walk::Headers, data: &[], count: 0, offset: 0 };
-//! let mut strip = [0; 11];
-//! assert_eq!(call.run().lend(&mut strip).length, 11);
-//! assert_eq!(strip, [1, 114, 0, 0, 0, 0, 0, 0, 0, 0, 2]);
+//! let mut strip = [0xA5; 15];
+//! assert_eq!(call.run().lend(&mut strip).length, 15);
+//! assert_eq!(strip, [1, 114, 0, 0, 0, 0, 0, 0, 0, 0, 0, 0, 0, 0, 2]);
 //! ```
 
 // The reference. Much of it (names, formats) is not called, and a formatter

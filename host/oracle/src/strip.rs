@@ -54,11 +54,20 @@ pub(crate) fn of_record(buf: &DissectBuffer<'_>, ids: &Ids, data: &[u8], offset:
     }
 }
 
+/// A container that is not closed yet.
+struct Container {
+    field: usize,
+    /// Where its count stands in the strip.
+    count: usize,
+    /// The entries directly inside it so far.
+    entries: u32,
+}
+
 struct Writer<'a> {
     ids: &'a Ids,
     data: &'a [u8],
     offset: usize,
-    open: Vec<usize>,
+    open: Vec<Container>,
     bytes: Vec<u8>,
     tail: usize,
 }
@@ -67,11 +76,20 @@ impl Writer<'_> {
     fn event(&mut self, event: Event, fields: &[Field<'_>]) {
         match event {
             Event::Open(i) => {
-                self.open.push(i);
                 self.head(OPEN, &fields[i]);
+                self.open.push(Container {
+                    field: i,
+                    count: self.bytes.len(),
+                    entries: 0,
+                });
+                // The count takes its place when it is known.
+                self.bytes.extend_from_slice(&[0; 4]);
             }
             Event::Close(i) => {
-                assert_eq!(self.open.pop(), Some(i), "containers close in order");
+                let open = self.open.pop().expect("a close has an open");
+                assert_eq!(open.field, i, "containers close in order");
+                let count = open.entries.to_be_bytes();
+                self.bytes[open.count..open.count + 4].copy_from_slice(&count);
                 self.bytes.push(CLOSE);
             }
             Event::Push(i) => self.field(&fields[i]),
@@ -136,7 +154,12 @@ impl Writer<'_> {
         self.range_head(kind, field, &field.range);
     }
 
+    /// Every entry but a close begins here, and counts for the container that it
+    /// stands in.
     fn range_head(&mut self, kind: u8, field: &Field<'_>, range: &Range<usize>) {
+        if let Some(container) = self.open.last_mut() {
+            container.entries += 1;
+        }
         let id = self.ids.id(field.descriptor);
         let id = id.unwrap_or_else(|| panic!("no id for {}", field.name()));
         self.bytes.extend_from_slice(&[kind, id]);

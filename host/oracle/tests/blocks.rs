@@ -30,7 +30,7 @@ fn call(walk: Walk, data: &[u8], offset: u64) -> Call<'_> {
 /// Compares strip and answer, for buffers that are full and larger.
 fn check(walk: Walk, data: &[u8], offset: u64, entries: &str, block: u32) {
     let strip = listing::strip(entries);
-    assert_eq!(strip.len(), if walk == Walk::Lls { 45 } else { 75 });
+    assert_eq!(strip.len(), if walk == Walk::Lls { 49 } else { 79 });
     let answer = Answer {
         length: strip.len() as u32,
         block,
@@ -45,7 +45,7 @@ fn check(walk: Walk, data: &[u8], offset: u64, entries: &str, block: u32) {
 
 #[test]
 fn lls_block_of_three_words() {
-    let entries = "open 136 0 12\n u16 128 0 2 65526\n u16 129 2 4 3\n bytes 130 4 12\n close";
+    let entries = "open 136 0 12 3\n u16 128 0 2 65526\n u16 129 2 4 3\n bytes 130 4 12\n close";
     check(Walk::Lls, &hex(LLS), 0, entries, 12);
     // What follows the block is not looked at.
     for after in [1, 4, 100] {
@@ -58,11 +58,11 @@ fn lls_block_of_three_words() {
 /// where the last TLV does not fit.
 #[test]
 fn lls_block_without_whole_tlvs() {
-    let empty = "open 136 0 4\n u16 128 0 2 4660\n u16 129 2 4 1\n bytes 130 4 4\n close";
+    let empty = "open 136 0 4 3\n u16 128 0 2 4660\n u16 129 2 4 1\n bytes 130 4 4\n close";
     check(Walk::Lls, &hex("1234 0001"), 0, empty, 4);
-    let cut = "open 136 0 12\n u16 128 0 2 0\n u16 129 2 4 3\n bytes 130 4 12\n close";
+    let cut = "open 136 0 12 3\n u16 128 0 2 0\n u16 129 2 4 3\n bytes 130 4 12\n close";
     check(Walk::Lls, &hex("0000 0003 0001 0005 00000001"), 0, cut, 12);
-    let second = "open 136 0 20\n u16 128 0 2 0\n u16 129 2 4 5\n bytes 130 4 20\n close";
+    let second = "open 136 0 20 3\n u16 128 0 2 0\n u16 129 2 4 5\n bytes 130 4 20\n close";
     let data = hex("0000 0005 0001 0004 00000001 0002 FFFF 00000000");
     check(Walk::Lls, &data, 0, second, 20);
 }
@@ -71,14 +71,14 @@ fn lls_block_without_whole_tlvs() {
 fn lls_block_at_the_largest_offset() {
     let mut data = bytes(65_535, 0x77);
     data[2..4].copy_from_slice(&16_383_u16.to_be_bytes());
-    let entries = "open 136 4294901760 4294967292\n u16 128 4294901760 4294901762 30583\n \
+    let entries = "open 136 4294901760 4294967292 3\n u16 128 4294901760 4294901762 30583\n \
                    u16 129 4294901762 4294901764 16383\n bytes 130 4294901764 4294967292\n close";
     check(Walk::Lls, &data, MOST_OFFSET, entries, 65_532);
 }
 
 #[test]
 fn auth_trailer_of_36_bytes() {
-    let entries = "open 152 0 36\n u16 144 0 2 1\n u16 145 2 4 36\n u16 146 6 8 100\n \
+    let entries = "open 152 0 36 5\n u16 144 0 2 1\n u16 145 2 4 36\n u16 146 6 8 100\n \
                    u64 147 8 16 72623859790382856\n bytes 148 16 36\n close";
     check(Walk::AuthTrailer, &trailer(), 0, entries, 36);
     let data = [trailer(), bytes(9, 0xFF)].concat();
@@ -87,7 +87,7 @@ fn auth_trailer_of_36_bytes() {
 
 #[test]
 fn auth_trailer_without_a_digest() {
-    let entries = "open 152 7 23\n u16 144 7 9 65535\n u16 145 9 11 16\n u16 146 13 15 65535\n \
+    let entries = "open 152 7 23 5\n u16 144 7 9 65535\n u16 145 9 11 16\n u16 146 13 15 65535\n \
                    u64 147 15 23 18446744073709551615\n bytes 148 23 23\n close";
     let data = hex("FFFF 0010 0000 FFFF FFFFFFFFFFFFFFFF");
     check(Walk::AuthTrailer, &data, 7, entries, 16);
@@ -98,7 +98,7 @@ fn auth_trailer_at_the_largest_offset() {
     let mut data = bytes(65_535, 0);
     data[2..4].copy_from_slice(&[0xFF, 0xFF]);
     data[15] = 9;
-    let entries = "open 152 4294901760 4294967295\n u16 144 4294901760 4294901762 0\n \
+    let entries = "open 152 4294901760 4294967295 5\n u16 144 4294901760 4294901762 0\n \
                    u16 145 4294901762 4294901764 65535\n u16 146 4294901766 4294901768 0\n \
                    u64 147 4294901768 4294901776 9\n bytes 148 4294901776 4294967295\n close";
     check(Walk::AuthTrailer, &data, MOST_OFFSET, entries, 65_535);
@@ -136,7 +136,7 @@ fn block_of(walk: Walk, data: &[u8]) -> Option<u32> {
 #[test]
 fn refusals_in_order() {
     for (walk, data) in [(Walk::Lls, hex(LLS)), (Walk::AuthTrailer, trailer())] {
-        let needed = if walk == Walk::Lls { 45 } else { 75 };
+        let needed = if walk == Walk::Lls { 49 } else { 79 };
         let long = [data.clone(), bytes(65_536 - data.len(), 0)].concat();
         let cases: [(&[u8], u64, u8, u32); 7] = [
             (&long, u64::MAX, 2, 0),
@@ -168,16 +168,16 @@ fn refusals_in_order() {
 #[test]
 fn packed_answers() {
     let packed = |walk, data: &[u8], room| call(walk, data, 0).run().answer(room).packed();
-    assert_eq!(packed(Walk::Lls, &hex(LLS), 45), 0x0C00_0000_002D);
-    assert_eq!(packed(Walk::Lls, &hex(LLS), 44), 0x05_0000_002D);
-    assert_eq!(packed(Walk::Lls, &hex(LLS)[..11], 45), 0);
-    assert_eq!(packed(Walk::AuthTrailer, &trailer(), 75), 0x2400_0000_004B);
-    assert_eq!(packed(Walk::AuthTrailer, &trailer(), 0), 0x05_0000_004B);
-    assert_eq!(packed(Walk::AuthTrailer, &trailer()[..35], 75), 0);
+    assert_eq!(packed(Walk::Lls, &hex(LLS), 49), 0x0C00_0000_0031);
+    assert_eq!(packed(Walk::Lls, &hex(LLS), 48), 0x05_0000_0031);
+    assert_eq!(packed(Walk::Lls, &hex(LLS)[..11], 49), 0);
+    assert_eq!(packed(Walk::AuthTrailer, &trailer(), 79), 0x2400_0000_004F);
+    assert_eq!(packed(Walk::AuthTrailer, &trailer(), 0), 0x05_0000_004F);
+    assert_eq!(packed(Walk::AuthTrailer, &trailer()[..35], 79), 0);
     let mut most = bytes(65_535, 0xFF);
-    assert_eq!(packed(Walk::AuthTrailer, &most, 75), 0x00FF_FF00_0000_004B);
+    assert_eq!(packed(Walk::AuthTrailer, &most, 79), 0x00FF_FF00_0000_004F);
     most.push(0);
-    assert_eq!(packed(Walk::AuthTrailer, &most, 75), 0x02_0000_0000);
+    assert_eq!(packed(Walk::AuthTrailer, &most, 79), 0x02_0000_0000);
 }
 
 #[test]

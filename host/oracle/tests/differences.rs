@@ -55,7 +55,7 @@ const NO_FLAGS: &str = "u8 10 20 21 0\n u8 11 20 21 0\n u8 12 20 21 0\n u8 13 20
 
 #[test]
 fn scope_of_a_version_3_ls_type_is_ignored() {
-    let network = "u32 14 21 24 51\n open 16 24 28\n ip4 98 24 28 10.0.0.1\n close";
+    let network = "u32 14 21 24 51\n open 16 24 28 1\n ip4 98 24 28 10.0.0.1\n close";
     for ls_type in ["2002", "0002", "4002", "6002", "E002"] {
         let lsa = format!("0001 {ls_type} 00000001 0A000001 80000001 0000 001C 00 000033 0A000001");
         check(3, &lsa, network);
@@ -64,7 +64,7 @@ fn scope_of_a_version_3_ls_type_is_ignored() {
 
 #[test]
 fn reserved_bytes_are_not_tested() {
-    let none = format!("{NO_FLAGS} u16 15 22 24 0\n open 16 24 24\n close");
+    let none = format!("{NO_FLAGS} u16 15 22 24 0\n open 16 24 24 0\n close");
     check(2, &router("00 00 0000"), &none);
     check(2, &router("00 EE 0000"), &none);
     let prefix = "u32 17 21 24 9\n u8 18 24 25 0\n u8 19 25 26 0\n \
@@ -101,7 +101,7 @@ fn declared_length_is_only_used_in_an_update() {
     let (strip, records, tail) = run(2, Walk::Headers, &short);
     assert_eq!((records, tail), (1, 0));
     assert!(has(&strip, "u16 7 18 20 0"));
-    let none = format!("{NO_FLAGS} u16 15 22 24 0\n open 16 24 24\n close");
+    let none = format!("{NO_FLAGS} u16 15 22 24 0\n open 16 24 24 0\n close");
     check(
         2,
         "0001 02 01 0A000001 0A000001 80000001 0000 0000 00 00 0000",
@@ -122,10 +122,10 @@ fn counts_need_not_be_met() {
     let fields = "ip4 64 24 28 10.0.0.2\n ip4 65 28 32 10.0.0.3\n u8 66 32 33 1\n \
                   u8 67 33 34 0\n u16 68 34 36 10\n";
     let above = format!(
-        "{NO_FLAGS} u16 15 22 24 2\n open 16 24 36\n open 96 24 36\n {fields} close\n close"
+        "{NO_FLAGS} u16 15 22 24 2\n open 16 24 36 1\n open 96 24 36 5\n {fields} close\n close"
     );
     check(2, &router(&format!("00 00 0002 {link}")), &above);
-    let below = format!("{NO_FLAGS} u16 15 22 24 0\n open 16 24 24\n close\n bytes 25 24 36");
+    let below = format!("{NO_FLAGS} u16 15 22 24 0\n open 16 24 24 0\n close\n bytes 25 24 36");
     check(2, &router(&format!("00 00 0000 {link}")), &below);
 }
 
@@ -142,7 +142,7 @@ fn network_lsa_without_routers() {
     check(
         2,
         "0001 02 02 0A000001 0A000001 80000001 0000 0018 FFFFFF00",
-        "ip4 17 20 24 255.255.255.0\n open 18 24 24\n close",
+        "ip4 17 20 24 255.255.255.0\n open 18 24 24 0\n close",
     );
 }
 
@@ -175,13 +175,13 @@ fn unknown_link_types_are_shown() {
 #[test]
 fn w_bit_has_no_field() {
     let flags = "u8 10 20 21 8\n u8 11 20 21 0\n u8 12 20 21 0\n u8 13 20 21 0\n \
-                  u8 14 20 21 0\n u16 15 22 24 0\n open 16 24 24\n close";
+                  u8 14 20 21 0\n u16 15 22 24 0\n open 16 24 24 0\n close";
     check(2, &router("08 00 0000"), flags);
     check(
         3,
         "0001 2001 00000000 0A000001 80000001 0000 0018 08 000033",
         "u8 7 20 21 8\n u8 8 20 21 0\n u8 9 20 21 0\n u8 10 20 21 0\n u8 11 20 21 0\n \
-         u32 14 21 24 51\n open 15 24 24\n close",
+         u32 14 21 24 51\n open 15 24 24 0\n close",
     );
 }
 
@@ -246,7 +246,7 @@ fn referenced_ls_type_is_not_tested() {
         3,
         lsa,
         "u32 28 20 22 0\n u16 22 22 24 65535\n u32 25 24 28 0\n ip4 30 28 32 10.0.0.1\n \
-         open 29 32 32\n close",
+         open 29 32 32 0\n close",
     );
 }
 
@@ -261,7 +261,7 @@ fn prefix_length_above_128_is_no_error() {
         3,
         lsa,
         "u32 28 20 22 2\n u16 22 22 24 8193\n u32 25 24 28 0\n ip4 30 28 32 10.0.0.1\n \
-         open 29 32 36\n open 97 32 36\n u8 80 32 33 0\n u8 81 33 34 0\n u16 82 34 36 10\n \
+         open 29 32 36 1\n open 97 32 36 4\n u8 80 32 33 0\n u8 81 33 34 0\n u16 82 34 36 10\n \
          ip6 83 36 36 00000000000000000000000000000000\n close\n close\n bytes 33 36 40",
     );
 }

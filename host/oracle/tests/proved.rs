@@ -222,7 +222,7 @@ fn written(strip: &[u8]) -> String {
             let value = strip[at..at + width]
                 .iter()
                 .fold(0, |n, &b| n << 8 | u64::from(b));
-            out += &if i < 3 {
+            out += &if i < 3 || name == "opens" {
                 format!(" {value}")
             } else {
                 format!(" {value:#x}")

@@ -1,5 +1,6 @@
 //! The requirements' worked listing and its edge bodies P1 to P12. What is
-//! expected is written by hand from the document, not taken from the oracle.
+//! expected is written by hand from the document, not taken from the oracle; the
+//! lengths of strips are the document's and four bytes more a container.
 
 use listing::{bytes, hex};
 use oracle::{Answer, Call, Outcome, Walk};
@@ -83,17 +84,17 @@ fn check(
     assert_eq!(buffer, [strip, bytes(3, 0xA5)].concat());
 }
 
-/// An update's outer array of records whose objects are given.
-fn update(end: usize, objects: &str, after: &str) -> String {
-    format!("open 114 4 {end}\n{objects}close\n{after}")
+/// An update's outer array of so many records, whose objects are given.
+fn update(end: usize, records: u32, objects: &str, after: &str) -> String {
+    format!("open 114 4 {end} {records}\n{objects}close\n{after}")
 }
 
 #[test]
 fn worked_listing() {
     let data = hex("00 01 02 01 0A 00 00 01 0A 00 00 01 80 00 00 01 12 34 00 18 FF");
     let listing = "
-        open 114 0 20
-        open 112 0 20
+        open 114 0 20 1
+        open 112 0 20 8
         u16 0 0 2 1
         u8 1 2 3 2
         u8 2 3 4 1
@@ -112,8 +113,8 @@ fn worked_listing() {
 #[test]
 fn worked_listing_in_hexadecimal() {
     let data = hex("00 01 02 01 0A 00 00 01 0A 00 00 01 80 00 00 01 12 34 00 18 FF");
-    let strip = hex("01 72 00000000 00000014
-         01 70 00000000 00000014
+    let strip = hex("01 72 00000000 00000014 00000001
+         01 70 00000000 00000014 00000008
          04 00 00000000 00000002 0001
          03 01 00000002 00000003 02
          03 02 00000003 00000004 01
@@ -125,7 +126,7 @@ fn worked_listing_in_hexadecimal() {
          02
          02
          08 19 00000014 00000015");
-    assert_eq!(strip.len(), 132);
+    assert_eq!(strip.len(), 140);
     let call = Call {
         version: 2,
         walk: Walk::Headers,
@@ -140,6 +141,44 @@ fn worked_listing_in_hexadecimal() {
         block: 0,
     };
     assert_eq!(call.run(), expected);
+}
+
+/// A count is that of the entries directly inside: an array or object among them
+/// counts once, and so do TLVs, an unparsed or a raw body; closes and what stands
+/// deeper do not, nor does the tail, which follows the array.
+#[test]
+fn counts_of_containers() {
+    let opaque = "0001 02 0A 01000000 0A000001 80000001 1234 001C 0001 0004 0A000001";
+    let body = "00 00 0001 0A000002 0A000003 01 02 000A 08 00 0014 10 00 001E EE";
+    let raw = "0001 02 06 0A000001 0A000001 80000001 1234 0016 BEEF";
+    let records = [
+        hex(opaque),
+        router_header(45),
+        hex(body),
+        hex(raw),
+        router_header(20),
+    ];
+    let data = [hex("00000004"), records.concat(), bytes(3, 0)].concat();
+    assert_eq!(data.len(), 122);
+    let objects = format!(
+        "open 113 4 32 11\n u16 0 4 6 1\n u8 1 6 7 2\n u8 2 7 8 10\n ip4 3 8 12 1.0.0.0\n \
+         ip4 4 12 16 10.0.0.1\n u32 5 16 20 2147483649\n u16 6 20 22 4660\n u16 7 22 24 28\n \
+         u8 8 8 9 1\n u32 9 9 12 0\n bytes 24 24 32\n close\n \
+         open 113 32 77 16\n {}u8 10 52 53 0\n u8 11 52 53 0\n u8 12 52 53 0\n u8 13 52 53 0\n \
+         u8 14 52 53 0\n u16 15 54 56 1\n open 16 56 76 1\n \
+         open 96 56 76 6\n ip4 64 56 60 10.0.0.2\n ip4 65 60 64 10.0.0.3\n u8 66 64 65 1\n \
+         u8 67 65 66 2\n u16 68 66 68 10\n open 69 68 76 2\n \
+         open 97 68 72 2\n u8 81 68 69 8\n u32 82 70 72 20\n close\n \
+         open 97 72 76 2\n u8 81 72 73 16\n u32 82 74 76 30\n close\n close\n close\n close\n \
+         bytes 25 76 77\n close\n \
+         open 113 77 99 9\n {}bytes 23 97 99\n close\n \
+         open 113 99 119 8\n {}close\n ",
+        router_header_entries(32, 45),
+        router_header_entries(77, 22).replace("u8 2 80 81 1", "u8 2 80 81 6"),
+        router_header_entries(99, 20)
+    );
+    let entries = update(119, 4, &objects, "bytes 25 119 122");
+    check(2, Walk::Update, 4, &data, &entries, 4, 3);
 }
 
 /// P1, seen through function 3, whose prefix stands alone at 8.
@@ -170,16 +209,24 @@ fn p1_octets_of_a_prefix_length() {
 #[test]
 fn p2_empty_header_list() {
     for version in [2, 3] {
-        check(version, Walk::Headers, 0, &[], "open 114 0 0\n close", 0, 0);
+        check(
+            version,
+            Walk::Headers,
+            0,
+            &[],
+            "open 114 0 0 0\n close",
+            0,
+            0,
+        );
     }
-    assert_eq!(listing::strip("open 114 0 0\n close").len(), 11);
+    assert_eq!(listing::strip("open 114 0 0 0\n close").len(), 15);
 }
 
 #[test]
 fn p3_nineteen_bytes_of_header_list() {
     for (version, unparsed) in [(2, 25), (3, 33)] {
-        let entries = format!("open 114 0 0\n close\n bytes {unparsed} 0 19");
-        assert_eq!(listing::strip(&entries).len(), 21);
+        let entries = format!("open 114 0 0 0\n close\n bytes {unparsed} 0 19");
+        assert_eq!(listing::strip(&entries).len(), 25);
         check(version, Walk::Headers, 0, &bytes(19, 1), &entries, 0, 19);
     }
 }
@@ -188,11 +235,11 @@ fn p3_nineteen_bytes_of_header_list() {
 fn p4_two_headers() {
     let data = [router_header(24), router_header(36)].concat();
     let entries = format!(
-        "open 114 0 40\n open 112 0 20\n {}close\n open 112 20 40\n {}close\n close",
+        "open 114 0 40 2\n open 112 0 20 8\n {}close\n open 112 20 40 8\n {}close\n close",
         router_header_entries(0, 24),
         router_header_entries(20, 36)
     );
-    assert_eq!(listing::strip(&entries).len(), 233);
+    assert_eq!(listing::strip(&entries).len(), 245);
     check(2, Walk::Headers, 0, &data, &entries, 2, 0);
 }
 
@@ -218,8 +265,8 @@ fn p5_update_of_three_bytes() {
 
 #[test]
 fn p6_update_without_room_for_a_record() {
-    let entries = update(4, "", "");
-    assert_eq!(listing::strip(&entries).len(), 11);
+    let entries = update(4, 0, "", "");
+    assert_eq!(listing::strip(&entries).len(), 15);
     check(2, Walk::Update, 7, &[0, 0, 0, 7], &entries, 0, 0);
     check(3, Walk::Update, 7, &[0, 0, 0, 7], &entries, 0, 0);
 }
@@ -227,16 +274,16 @@ fn p6_update_without_room_for_a_record() {
 #[test]
 fn p7_declared_lengths_19_20_21() {
     let body = |length| [hex("00000001"), router_header(length)].concat();
-    let none = update(4, "", "bytes 25 4 24");
+    let none = update(4, 0, "", "bytes 25 4 24");
     check(2, Walk::Update, 1, &body(19), &none, 0, 20);
     check(2, Walk::Update, 1, &body(21), &none, 0, 20);
-    let object = format!("open 113 4 24\n {}close\n", router_header_entries(4, 20));
+    let object = format!("open 113 4 24 8\n {}close\n", router_header_entries(4, 20));
     check(
         2,
         Walk::Update,
         1,
         &body(20),
-        &update(24, &object, ""),
+        &update(24, 1, &object, ""),
         1,
         0,
     );
@@ -245,8 +292,8 @@ fn p7_declared_lengths_19_20_21() {
 #[test]
 fn p8_count_below_the_records() {
     let data = [hex("00000001"), router_header(20), router_header(20)].concat();
-    let object = format!("open 113 4 24\n {}close\n", router_header_entries(4, 20));
-    let entries = update(24, &object, "bytes 25 24 44");
+    let object = format!("open 113 4 24 8\n {}close\n", router_header_entries(4, 20));
+    let entries = update(24, 1, &object, "bytes 25 24 44");
     check(2, Walk::Update, 1, &data, &entries, 1, 20);
 }
 
@@ -263,21 +310,21 @@ fn p9_link_with_255_tos_entries() {
             let p = 36 + 4 * (tos - 1);
             let (metric, end) = (256 + tos, p + 4);
             format!(
-                "open 97 {p} {end}\n u8 81 {p} {} {tos}\n u32 82 {} {end} {metric}\n close\n",
+                "open 97 {p} {end} 2\n u8 81 {p} {} {tos}\n u32 82 {} {end} {metric}\n close\n",
                 p + 1,
                 p + 2
             )
         })
         .collect();
     let whole = format!(
-        "{}{flags}open 16 24 1056\n open 96 24 1056\n ip4 64 24 28 10.0.0.2\n \
+        "{}{flags}open 16 24 1056 1\n open 96 24 1056 6\n ip4 64 24 28 10.0.0.2\n \
          ip4 65 28 32 10.0.0.3\n u8 66 32 33 1\n u8 67 33 34 255\n u16 68 34 36 10\n \
-         open 69 36 1056\n {entries}close\n close\n close",
+         open 69 36 1056 255\n {entries}close\n close\n close",
         router_header_entries(0, 1056)
     );
     check(2, Walk::Lsa, 0, &data, &whole, 1, 0);
     let cut = format!(
-        "{}{flags}open 16 24 24\n close\n bytes 25 24 1055",
+        "{}{flags}open 16 24 24 0\n close\n bytes 25 24 1055",
         router_header_entries(0, 1056)
     );
     check(2, Walk::Lsa, 0, &data[..1055], &cut, 1, 1031);
@@ -367,18 +414,18 @@ fn refusal_5_and_the_full_buffer() {
         count: 0,
         offset: 4_294_901_760,
     };
-    let mut short = bytes(20, 0xA5);
+    let mut short = bytes(24, 0xA5);
     let refused = Answer {
         number: 5,
-        length: 21,
+        length: 25,
         ..Answer::default()
     };
     assert_eq!(call.run().lend(&mut short), refused);
-    assert_eq!(short, bytes(20, 0xA5));
-    assert_eq!(refused.packed(), 0x05_0000_0015);
+    assert_eq!(short, bytes(24, 0xA5));
+    assert_eq!(refused.packed(), 0x05_0000_0019);
 
-    let mut full = bytes(21, 0xA5);
-    assert_eq!(call.run().lend(&mut full).packed(), 21);
-    let expected = "open 114 4294901760 4294901760\n close\n bytes 33 4294901760 4294901779";
+    let mut full = bytes(25, 0xA5);
+    assert_eq!(call.run().lend(&mut full).packed(), 25);
+    let expected = "open 114 4294901760 4294901760 0\n close\n bytes 33 4294901760 4294901779";
     assert_eq!(full, listing::strip(expected));
 }

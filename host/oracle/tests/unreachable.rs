@@ -74,7 +74,7 @@ fn an_entry_as_a_number() {
         listing::strip(&format!("u32 82 {end} 16777215"))
     );
     for line in [
-        "open 20 28 32",
+        "open 20 28 32 16777215",
         "close",
         "u8 81 28 29 255",
         "u16 68 34 36 65535",
@@ -185,10 +185,10 @@ fn summaries() {
             ls_type,
             "FFFFFFFF FF FFFFFE FF FFFFFF FF FFFEFF 08 FFFFFF",
             &format!(
-                "{mask}\n u32 19 25 28 16777214\n open 20 28 40\n \
-                 open 97 28 32\n u8 81 28 29 255\n never 82 29 32\n close\n \
-                 open 97 32 36\n u8 81 32 33 255\n u32 82 33 36 16776959\n close\n \
-                 open 97 36 40\n u8 81 36 37 8\n never 82 37 40\n close\n close"
+                "{mask}\n u32 19 25 28 16777214\n open 20 28 40 3\n \
+                 open 97 28 32 2\n u8 81 28 29 255\n never 82 29 32\n close\n \
+                 open 97 32 36 2\n u8 81 32 33 255\n u32 82 33 36 16776959\n close\n \
+                 open 97 36 40 2\n u8 81 36 37 8\n never 82 37 40\n close\n close"
             ),
         );
     }
@@ -207,10 +207,10 @@ fn externals() {
             ls_type,
             &format!("{body} FF FFFFFF 00FFFFFF 00FFFFFF 7F FFFFFE FFFFFFFF FFFFFFFF FF"),
             &format!(
-                "{fixed}\n open 20 36 60\n \
-                 open 97 36 48\n u8 80 36 37 1\n u8 81 36 37 127\n never 82 37 40\n \
+                "{fixed}\n open 20 36 60 2\n \
+                 open 97 36 48 5\n u8 80 36 37 1\n u8 81 36 37 127\n never 82 37 40\n \
                  ip4 83 40 44 0.255.255.255\n u32 84 44 48 16777215\n close\n \
-                 open 97 48 60\n u8 80 48 49 0\n u8 81 48 49 127\n u32 82 49 52 16777214\n \
+                 open 97 48 60 5\n u8 80 48 49 0\n u8 81 48 49 127\n u32 82 49 52 16777214\n \
                  ip4 83 52 56 255.255.255.255\n u32 84 56 60 4294967295\n close\n close\n \
                  bytes 25 60 61"
             ),
@@ -268,20 +268,20 @@ fn numbers_of_all_ones() {
         assert_eq!(found, listing::strip(opaque));
     }
     let router = "u8 10 20 21 0\n u8 11 20 21 0\n u8 12 20 21 0\n u8 13 20 21 0\n \
-                  u8 14 20 21 0\n u16 15 22 24 1\n open 16 24 40\n open 96 24 40\n \
+                  u8 14 20 21 0\n u16 15 22 24 1\n open 16 24 40 1\n open 96 24 40 6\n \
                   ip4 64 24 28 255.255.255.255\n ip4 65 28 32 255.255.255.255\n u8 66 32 33 255\n \
-                  u8 67 33 34 1\n u16 68 34 36 65535\n open 69 36 40\n open 97 36 40\n \
+                  u8 67 33 34 1\n u16 68 34 36 65535\n open 69 36 40 1\n open 97 36 40 2\n \
                   u8 81 36 37 255\n u32 82 38 40 65535\n close\n close\n close\n close";
     let body = "00 00 0001 FFFFFFFF FFFFFFFF FF 01 FFFF FF FF FFFF";
     assert_eq!(entries(2, 1, "00000000", body), listing::strip(router));
     let router = "u8 7 20 21 0\n u8 8 20 21 0\n u8 9 20 21 0\n u8 10 20 21 0\n u8 11 20 21 0\n \
-                  u32 14 21 24 16777215\n open 15 24 40\n open 96 24 40\n u8 64 24 25 255\n \
+                  u32 14 21 24 16777215\n open 15 24 40 1\n open 96 24 40 5\n u8 64 24 25 255\n \
                   u16 65 26 28 65535\n u32 66 28 32 16777215\n u32 67 32 36 4294967295\n \
                   ip4 68 36 40 255.255.255.255\n close\n close";
     let body = "00 FFFFFF FF FF FFFF 00FFFFFF FFFFFFFF FFFFFFFF";
     assert_eq!(entries(3, 0x2001, "00000000", body), listing::strip(router));
     let prefixes = "u32 28 20 22 1\n u16 22 22 24 65535\n u32 25 24 28 16777215\n \
-                    ip4 30 28 32 255.255.255.255\n open 29 32 36\n open 97 32 36\n \
+                    ip4 30 28 32 255.255.255.255\n open 29 32 36 1\n open 97 32 36 4\n \
                     u8 80 32 33 0\n u8 81 33 34 255\n u16 82 34 36 65535\n \
                     ip6 83 36 36 00000000000000000000000000000000\n close\n close";
     let body = "0001 FFFF 00FFFFFF FFFFFFFF 00 FF FFFF";
@@ -295,7 +295,7 @@ fn numbers_of_all_ones() {
 #[test]
 fn the_length_needed() {
     let data = lsa(3, "00000000", "FFFFFF00 00 FFFFFF 00 FFFFFF 00 FFFFFF");
-    let length = 100 + 14 + 10 + 10 + 2 * (10 + 11 + 10 + 1) + 1;
+    let length = 100 + 14 + 10 + 14 + 2 * (14 + 11 + 10 + 1) + 1;
     let outcome = call(2, &data).run();
     for room in [0, length - 1] {
         let refused = Answer {

@@ -4,8 +4,9 @@
 //! headers, 1 the body of a Link State Update, 2 a single LSA) or the block
 //! (3 an LLS data block, 4 an authentication trailer; then the version is not
 //! looked at), and the data. Beside the LS checksum of a whole LSA stands
-//! whether it is right; a metric that says unreachable prints `unreachable` for
-//! a value. A block that is not there prints `absent`.
+//! whether it is right, beside a container how many entries are directly inside;
+//! a metric that says unreachable prints `unreachable` for a value. A block that
+//! is not there prints `absent`.
 
 use std::env;
 use std::fs;
@@ -81,7 +82,7 @@ fn walked<'a>(
     }
 }
 
-/// A line an entry: name, byte range, value; indented by its containers.
+/// A line an entry: name, byte range, value or count; indented by its containers.
 fn print(strip: Strip, input: &[u8]) {
     let data = input.get(2..).unwrap_or_default();
     // The LSA that is being printed, if it is a whole one; a single LSA is all the data.
@@ -108,7 +109,9 @@ fn line(entry: &Entry, lsa: Option<&[u8]>) -> String {
     let value = match entry.value() {
         Some(value) => format!(" = {value}"),
         None if entry.is_unreachable() => " = unreachable".to_string(),
-        None => String::new(),
+        None => entry
+            .count()
+            .map_or(String::new(), |count| format!(", {count} inside")),
     };
     let lsa = lsa.filter(|_| name == "ls_checksum");
     let checked = match lsa.map(checksum_is_good) {

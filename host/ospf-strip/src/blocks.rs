@@ -71,7 +71,7 @@ fn found(version: Version, strip: &mut [u8], answer: u64) -> Result<Option<Block
 ///
 /// // Two words, then a byte that belongs to something else.
 /// let data = [0xFF, 0xF6, 0, 2, 0, 1, 0, 0, 9];
-/// let mut bytes = [0; 45];
+/// let mut bytes = [0; 49];
 /// let block = lls(&data, 0, &mut bytes)?.expect("a block");
 /// assert_eq!(block.length(), 8);
 /// let names: Vec<_> = block.into_iter().filter_map(|entry| entry.name()).collect();
@@ -79,7 +79,7 @@ fn found(version: Version, strip: &mut [u8], answer: u64) -> Result<Option<Block
 ///
 /// // A byte short of the block: none is there, and no room is needed.
 /// assert_eq!(lls(&data[..7], 0, &mut [])?, None);
-/// assert_eq!(lls(&data, 0, &mut []), Err(Refusal::Room { needed: 45 }));
+/// assert_eq!(lls(&data, 0, &mut []), Err(Refusal::Room { needed: 49 }));
 /// # Ok::<(), Refusal>(())
 /// ```
 ///
@@ -108,7 +108,7 @@ pub fn lls<'s>(
 ///
 /// // HMAC, 20 bytes, security association 100, sequence number 7, a digest of four bytes.
 /// let data = [0, 1, 0, 20, 0, 0, 0, 100, 0, 0, 0, 0, 0, 0, 0, 7, 0xDE, 0xAD, 0xBE, 0xEF];
-/// let mut bytes = [0; 75];
+/// let mut bytes = [0; 79];
 /// let trailer = auth_trailer(&data, 0, &mut bytes)?.expect("a trailer");
 /// assert_eq!(trailer.length(), 20);
 /// let number = trailer.into_iter().nth(4).unwrap();

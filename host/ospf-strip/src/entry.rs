@@ -73,18 +73,19 @@ impl From<Value> for u128 {
     }
 }
 
-/// Where an entry's value begins: after kind, id, start and end.
+/// Where an entry's value begins, or an opening's count: after kind, id, start
+/// and end.
 const HEAD: usize = 10;
 
 /// How much of a strip `fold` looks at: as much as six entries have whose
-/// values are of 32 bits, and so more than any of its rows.
+/// values are of 32 bits, or six openings, and so more than any of its rows.
 const WINDOW: usize = 6 * (HEAD + 4);
 
 /// An entry's bytes, from its kind on. The kind fixes how many there are, so
 /// whoever holds one reads it without a test.
 #[derive(Clone, Copy, PartialEq, Eq, Hash)]
 enum View<'a> {
-    Open(&'a [u8; HEAD]),
+    Open(&'a [u8; HEAD + 4]),
     Close,
     U8(&'a [u8; HEAD + 1]),
     U16(&'a [u8; HEAD + 2]),
@@ -172,6 +173,37 @@ impl<'a> Entry<'a> {
         value
     }
 
+    /// How many entries are directly inside the container that this entry
+    /// opens: a container among them counts once, whatever is in it, and closes
+    /// do not count. `None` of an entry of any other kind. So a list can be
+    /// given its size before the entries are read.
+    ///
+    /// ```
+    /// use ospf_strip::{Buffer, Version};
+    ///
+    /// // A version 2 network LSA with two attached routers.
+    /// let lsa = [
+    ///     0, 1, 2, 2, 10, 0, 0, 1, 10, 0, 0, 1, 0x80, 0, 0, 1, 0, 0, 0, 32, //
+    ///     255, 255, 255, 0, 10, 0, 0, 1, 10, 0, 0, 2,
+    /// ];
+    /// let mut buffer = Buffer::new();
+    /// let mut entries = buffer.lsa(Version::V2, &lsa, 0)?.entries();
+    /// let array = entries.find(|entry| entry.name() == Some("attached_routers"));
+    /// let count = array.and_then(|array| array.count()).unwrap();
+    /// let mut routers = Vec::with_capacity(count as usize);
+    /// routers.extend(entries.take(count as usize).filter_map(|router| router.value()));
+    /// assert_eq!(routers.len(), 2);
+    /// # Ok::<(), ospf_strip::Refusal>(())
+    /// ```
+    #[inline]
+    #[must_use]
+    pub fn count(&self) -> Option<u32> {
+        match self.view {
+            View::Open(b) => Some(u32::from_be_bytes(*last(b))),
+            _ => None,
+        }
+    }
+
     /// Whether the field is a metric that says unreachable, and so no cost.
     ///
     /// ```
@@ -198,12 +230,13 @@ impl<'a> Entry<'a> {
         self.kind() == Kind::Unreachable
     }
 
-    /// All that an entry says: its kind; kind, id, start and end as bytes; and
-    /// its value. Inlined, so that whoever takes one of them reads no other.
+    /// All that an entry says but an opening's count: its kind; kind, id, start
+    /// and end as bytes; and its value. Inlined, so that whoever takes one of them
+    /// reads no other.
     #[inline(always)]
     fn read(&self) -> (Kind, Option<&'a [u8; HEAD]>, Option<Value>) {
         match self.view {
-            View::Open(head) => (Kind::Open, Some(head), None),
+            View::Open(b) => (Kind::Open, b.first_chunk(), None),
             View::Close => (Kind::Close, None, None),
             View::U8(b) => (Kind::U8, b.first_chunk(), Some(Value::U8(b[HEAD]))),
             View::U16(b) => {
@@ -232,7 +265,7 @@ impl<'a> Entry<'a> {
     }
 }
 
-/// The last bytes of an entry.
+/// The last bytes of an entry: its value, or an opening's count.
 #[inline]
 fn last<const N: usize>(bytes: &[u8]) -> &[u8; N] {
     bytes
@@ -282,6 +315,7 @@ impl fmt::Debug for Entry<'_> {
             .field("name", &self.name())
             .field("range", &self.range())
             .field("value", &self.value())
+            .field("count", &self.count())
             .finish()
     }
 }
@@ -407,6 +441,22 @@ mod tests {
 
     fn entries(bytes: &[u8]) -> Entries<'_> {
         Entries::of(Version::V2, bytes)
+    }
+
+    /// The last four bytes of an opening are its count and no value; the same
+    /// bytes of another kind are no count.
+    #[test]
+    fn count_of_an_opening() {
+        let opening = [1, 114, 0, 0, 0, 4, 0, 0, 0, 20, 0xFE, 0xDC, 0xBA, 0x98];
+        let open = entries(&opening).next().expect("an entry");
+        assert_eq!((open.kind(), open.id()), (Kind::Open, Some(114)));
+        assert_eq!((open.range(), open.value()), (Some(4..20), None));
+        assert_eq!(open.count(), Some(0xFEDC_BA98));
+        assert!(format!("{open:?}").contains("count: Some(4275878552)"));
+        let field = [&[5], &opening[1..]].concat();
+        let number = entries(&field).next().expect("an entry");
+        assert_eq!(number.value(), Some(Value::U32(0xFEDC_BA98)));
+        assert_eq!(number.count(), None);
     }
 
     /// What is no kind ends `next` and `fold`, near the end and far from it.

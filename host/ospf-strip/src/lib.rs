@@ -5,6 +5,8 @@
 //! or over a single LSA. The walk gives back a [`Strip`], whose entries say
 //! for each field its kind, its id, its place in the packet and its value. A
 //! metric of all ones has no value: it [is unreachable](Entry::is_unreachable).
+//! An entry that opens a container says [how many](Entry::count) are directly
+//! inside.
 //! [`lsa_headers`], [`lsu_lsas`] and [`lsa`] write into bytes of the caller's.
 //! In the same way [`lls`] and [`auth_trailer`] read the blocks that may follow
 //! a packet: an LLS data block, and the authentication trailer of OSPFv3.

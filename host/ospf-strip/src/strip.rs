@@ -1,6 +1,6 @@
 //! The strip of one call.
 
-use crate::{DamagedStrip, Entries, Entry, Kind, Version, exports};
+use crate::{DamagedStrip, Entries, Entry, Version, exports};
 
 /// The id of the outer array of a header list or an update.
 const OUTER: u8 = 114;
@@ -21,7 +21,8 @@ impl<'a> Strip<'a> {
     }
 
     /// A strip that comes from elsewhere, such as a file. The bytes are
-    /// tested to be whole entries; that containers match is not tested.
+    /// tested to be whole entries; that containers match, and that they have as
+    /// many entries as they say, is not tested.
     ///
     /// ```
     /// use ospf_strip::{DamagedStrip, Strip, Version};
@@ -70,26 +71,14 @@ impl<'a> Strip<'a> {
     }
 
     /// How many records the walk accepted: the headers of a header list, the
-    /// LSAs of an update, and 1 for a single LSA, as for a block. Goes through
-    /// the strip.
+    /// LSAs of an update, and 1 for a single LSA, as for a block. The outer
+    /// array has records alone, and says how many they are.
     #[must_use]
     pub fn records(&self) -> usize {
-        let mut entries = self.entries();
-        if entries.next().and_then(|first| first.id()) != Some(OUTER) {
-            return 1;
-        }
-        let (mut records, mut depth) = (0, 1_i64);
-        for entry in entries {
-            match entry.kind() {
-                Kind::Open => {
-                    records += usize::from(depth == 1);
-                    depth += 1;
-                }
-                Kind::Close => depth -= 1,
-                _ => {}
-            }
-        }
-        records
+        let first = self.entries().next();
+        let outer = first.filter(|entry| entry.id() == Some(OUTER));
+        let count = outer.and_then(|array| array.count());
+        count.map_or(1, |count| count as usize)
     }
 
     /// How many bytes are left after the last record, or, of a single LSA,

@@ -19,10 +19,10 @@ pub(crate) fn written(
 /// use ospf_strip::{Refusal, Version, lsa_headers};
 ///
 /// // No header: an outer array that is empty.
-/// let mut bytes = [0; 11];
+/// let mut bytes = [0; 15];
 /// assert_eq!(lsa_headers(Version::V2, &[], 0, &mut bytes)?.records(), 0);
-/// let refusal = lsa_headers(Version::V2, &[], 0, &mut bytes[..10]).unwrap_err();
-/// assert_eq!(refusal, Refusal::Room { needed: 11 });
+/// let refusal = lsa_headers(Version::V2, &[], 0, &mut bytes[..14]).unwrap_err();
+/// assert_eq!(refusal, Refusal::Room { needed: 15 });
 /// # Ok::<(), Refusal>(())
 /// ```
 ///

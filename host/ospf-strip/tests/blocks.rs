@@ -11,7 +11,7 @@ const MOST_OFFSET: u64 = 4_294_901_760;
 
 /// Both readings into lent bytes, and how long the strip of each is.
 type Lend = for<'s> fn(&[u8], u64, &'s mut [u8]) -> Result<Option<Block<'s>>, Refusal>;
-const READINGS: [(Lend, usize); 2] = [(ospf_strip::lls, 45), (ospf_strip::auth_trailer, 75)];
+const READINGS: [(Lend, usize); 2] = [(ospf_strip::lls, 49), (ospf_strip::auth_trailer, 79)];
 
 /// An LLS block with a TLV of extended options, and a trailer with a digest of HMAC-SHA-1.
 fn lls() -> Vec<u8> {
@@ -58,13 +58,13 @@ fn strips_by_hand() {
     let mut buffer = Buffer::new();
     let (data, offset) = ([lls(), vec![9; 5]].concat(), 40);
     let block = buffer.lls(&data, offset).unwrap().unwrap();
-    let expected = "open 136 40 52\nu16 128 40 42 65526\nu16 129 42 44 3\nbytes 130 44 52\nclose";
+    let expected = "open 136 40 52 3\nu16 128 40 42 65526\nu16 129 42 44 3\nbytes 130 44 52\nclose";
     assert_eq!(block.strip().bytes(), listing::strip(expected));
     assert_eq!(block.length(), 12);
 
     let data = [trailer(), vec![9; 5]].concat();
     let block = buffer.auth_trailer(&data, MOST_OFFSET).unwrap().unwrap();
-    let expected = "open 152 4294901760 4294901796\nu16 144 4294901760 4294901762 1
+    let expected = "open 152 4294901760 4294901796 5\nu16 144 4294901760 4294901762 1
         u16 145 4294901762 4294901764 36\nu16 146 4294901766 4294901768 100
         u64 147 4294901768 4294901776 81985529216486895\nbytes 148 4294901776 4294901796\nclose";
     assert_eq!(block.strip().bytes(), listing::strip(expected));
@@ -155,7 +155,7 @@ fn least_blocks() {
 fn longest_blocks() {
     let mut data = vec![0; 65_536];
     for ((read, _), longest) in READINGS.into_iter().zip([16_383_u16, 65_535]) {
-        let mut strip = [0; 75];
+        let mut strip = [0; 79];
         data[2..4].copy_from_slice(&longest.to_be_bytes());
         let block = read(&data[..65_535], MOST_OFFSET, &mut strip)
             .unwrap()
@@ -212,7 +212,7 @@ fn buffer_is_used_again() {
         .unwrap()
         .bytes()
         .len();
-    assert!(length > 75);
+    assert!(length > 79);
     let mut fresh = Buffer::new();
     assert_eq!(buffer.lls(&lls(), 0), fresh.lls(&lls(), 0));
     assert_eq!(buffer.lls(&[], 0), Ok(None));

@@ -147,8 +147,7 @@ fn refusals_agree() {
 fn blocks() {
     built();
     let mut lls = fs::read(top().join("examples/lls.bin")).unwrap();
-    let found =
-        "lls [0..12]\n  checksum [0..2] = 65526\n  lls_data_length [2..4] = 3\n  tlvs [4..12]\n";
+    let found = "lls [0..12], 3 inside\n  checksum [0..2] = 65526\n  lls_data_length [2..4] = 3\n  tlvs [4..12]\n";
     let most = |walk| [vec![2, walk], vec![0; 2048]].concat();
     let mut cases = vec![
         (vec![9, 3], "absent\n"),
@@ -207,11 +206,11 @@ fn unreachable_metrics() {
     let expected = "\
 network_mask [20..24] = 255.255.0.0
 metric [25..28] = unreachable
-tos_metrics [28..36]
-  tos_metric [28..32]
+tos_metrics [28..36], 2 inside
+  tos_metric [28..32], 2 inside
     tos [28..29] = 8
     metric [29..32] = 10
-  tos_metric [32..36]
+  tos_metric [32..36], 2 inside
     tos [32..33] = 16
     metric [33..36] = unreachable
 ";

@@ -126,11 +126,11 @@ fn edges_are_refused_by_number() {
     assert_eq!(printed(b"\x01\x02"), "refused 1 0\n");
     assert_eq!(printed(b"\x02\x01\x00\x00\x00"), "refused 4 0\n");
     assert_eq!(printed(b"\x03\x02"), "refused 4 0\n");
-    assert_eq!(printed(b"\x02\x00"), "ok 0 0 11\nopen 114 0 0\nclose\n");
+    assert_eq!(printed(b"\x02\x00"), "ok 0 0 15\nopen 114 0 0 0\nclose\n");
     let mut most = vec![2, 0];
     most.resize(MOST + 2, 0);
     let text = printed(&most);
-    assert!(text.starts_with("ok 102 8 11343\n"), "{text}");
+    assert!(text.starts_with("ok 102 8 11755\n"), "{text}");
     assert_eq!(text.lines().count(), 1 + 2 + 102 * 10 + 1);
     most.push(0);
     assert_eq!(printed(&most), "refused 2 0\n");

@@ -66,6 +66,7 @@ fn compare(version: Version, bytes: &[u8]) -> (usize, u8) {
             start: range.start,
             end: range.end,
             value: halves(entry),
+            count: entry.count().unwrap_or_default(),
             next,
         };
         assert_eq!(*c, expected);

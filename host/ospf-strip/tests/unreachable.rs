@@ -49,6 +49,19 @@ fn moved(listing: &str, by: u64) -> String {
     lines.collect()
 }
 
+/// How many entries of a listing stand in no container of it.
+fn outermost(listing: &str) -> u32 {
+    let (mut count, mut depth) = (0, 0);
+    for word in listing.lines().filter_map(|l| l.split_whitespace().next()) {
+        match word {
+            "close" => depth -= 1,
+            _ => count += u32::from(depth == 0),
+        }
+        depth += i32::from(word == "open");
+    }
+    count
+}
+
 /// The strip is the listed one, in one buffer that grows and in lent bytes that
 /// are one too few, just enough and more.
 fn check_strip(
@@ -84,13 +97,13 @@ fn check(version: Version, ls_type: u16, body: &str, listing: &str) {
         check_strip(found, lent, &moved(&listing, offset));
     }
 
-    let length = data.len() as u64;
+    let (length, count) = (data.len() as u64, outermost(&listing));
     let update = [&[0, 0, 0, 2], &data[..], &data].concat();
     let (second, end) = (4 + length, 4 + 2 * length);
     let outer = [
-        format!("open 114 4 {end}\nopen 113 4 {second}\n"),
+        format!("open 114 4 {end} 2\nopen 113 4 {second} {count}\n"),
         moved(&listing, 4),
-        format!("close\nopen 113 {second} {end}\n"),
+        format!("close\nopen 113 {second} {end} {count}\n"),
         moved(&listing, second),
         "close\nclose".to_string(),
     ];
@@ -118,19 +131,19 @@ fn summaries() {
         );
         check(
             "FFFF0000 00 FFFFFF 08 FFFFFF",
-            "ip4 17 20 24 255.255.0.0\nnever 19 25 28\nopen 20 28 32\nopen 97 28 32
+            "ip4 17 20 24 255.255.0.0\nnever 19 25 28\nopen 20 28 32 1\nopen 97 28 32 2
              u8 81 28 29 8\nnever 82 29 32\nclose\nclose",
         );
         // First, in the middle and last of a list, and bytes after it.
         check(
             "FFFF0000 00 00000A 02 FFFFFF 04 FFFFFE 08 FFFFFF 10 FFFFFF 12 000000 FF FFFFFF FFFF",
-            "ip4 17 20 24 255.255.0.0\nu32 19 25 28 10\nopen 20 28 52
-             open 97 28 32\nu8 81 28 29 2\nnever 82 29 32\nclose
-             open 97 32 36\nu8 81 32 33 4\nu32 82 33 36 16777214\nclose
-             open 97 36 40\nu8 81 36 37 8\nnever 82 37 40\nclose
-             open 97 40 44\nu8 81 40 41 16\nnever 82 41 44\nclose
-             open 97 44 48\nu8 81 44 45 18\nu32 82 45 48 0\nclose
-             open 97 48 52\nu8 81 48 49 255\nnever 82 49 52\nclose
+            "ip4 17 20 24 255.255.0.0\nu32 19 25 28 10\nopen 20 28 52 6
+             open 97 28 32 2\nu8 81 28 29 2\nnever 82 29 32\nclose
+             open 97 32 36 2\nu8 81 32 33 4\nu32 82 33 36 16777214\nclose
+             open 97 36 40 2\nu8 81 36 37 8\nnever 82 37 40\nclose
+             open 97 40 44 2\nu8 81 40 41 16\nnever 82 41 44\nclose
+             open 97 44 48 2\nu8 81 44 45 18\nu32 82 45 48 0\nclose
+             open 97 48 52 2\nu8 81 48 49 255\nnever 82 49 52\nclose
              close\nbytes 25 52 54",
         );
     }
@@ -151,12 +164,12 @@ fn externals() {
             "FFFF0000 00 FFFFFF FFFFFFFF 00FFFFFF 88 FFFFFF 0A000008 FFFFFFFF
              04 00000A 00000000 00000000 90 FFFFFF FFFFFFFF 00FFFFFF FFFFFF",
             "ip4 17 20 24 255.255.0.0\nu8 13 24 25 0\nnever 19 25 28
-             ip4 21 28 32 255.255.255.255\nu32 22 32 36 16777215\nopen 20 36 72
-             open 97 36 48\nu8 80 36 37 1\nu8 81 36 37 8\nnever 82 37 40
+             ip4 21 28 32 255.255.255.255\nu32 22 32 36 16777215\nopen 20 36 72 3
+             open 97 36 48 5\nu8 80 36 37 1\nu8 81 36 37 8\nnever 82 37 40
              ip4 83 40 44 10.0.0.8\nu32 84 44 48 4294967295\nclose
-             open 97 48 60\nu8 80 48 49 0\nu8 81 48 49 4\nu32 82 49 52 10
+             open 97 48 60 5\nu8 80 48 49 0\nu8 81 48 49 4\nu32 82 49 52 10
              ip4 83 52 56 0.0.0.0\nu32 84 56 60 0\nclose
-             open 97 60 72\nu8 80 60 61 1\nu8 81 60 61 16\nnever 82 61 64
+             open 97 60 72 5\nu8 80 60 61 1\nu8 81 60 61 16\nnever 82 61 64
              ip4 83 64 68 255.255.255.255\nu32 84 68 72 16777215\nclose
              close\nbytes 25 72 75",
         );
@@ -232,17 +245,17 @@ fn metrics_of_16_bits() {
         1,
         "00 00 0001 0A000002 0A000003 03 02 FFFF FF FF FFFF 08 00 FFFE",
         "u8 10 20 21 0\nu8 11 20 21 0\nu8 12 20 21 0\nu8 13 20 21 0\nu8 14 20 21 0
-         u16 15 22 24 1\nopen 16 24 44\nopen 96 24 44\nip4 64 24 28 10.0.0.2
+         u16 15 22 24 1\nopen 16 24 44 1\nopen 96 24 44 6\nip4 64 24 28 10.0.0.2
          ip4 65 28 32 10.0.0.3\nu8 66 32 33 3\nu8 67 33 34 2\nu16 68 34 36 65535
-         open 69 36 44\nopen 97 36 40\nu8 81 36 37 255\nu32 82 38 40 65535\nclose
-         open 97 40 44\nu8 81 40 41 8\nu32 82 42 44 65534\nclose\nclose\nclose\nclose",
+         open 69 36 44 2\nopen 97 36 40 2\nu8 81 36 37 255\nu32 82 38 40 65535\nclose
+         open 97 40 44 2\nu8 81 40 41 8\nu32 82 42 44 65534\nclose\nclose\nclose\nclose",
     );
     check(
         Version::V3,
         0x2001,
         "00 FFFFFF FF FF FFFF 00FFFFFF 00FFFFFF 0A000002",
         "u8 7 20 21 0\nu8 8 20 21 0\nu8 9 20 21 0\nu8 10 20 21 0\nu8 11 20 21 0
-         u32 14 21 24 16777215\nopen 15 24 40\nopen 96 24 40\nu8 64 24 25 255
+         u32 14 21 24 16777215\nopen 15 24 40 1\nopen 96 24 40 5\nu8 64 24 25 255
          u16 65 26 28 65535\nu32 66 28 32 16777215\nu32 67 32 36 16777215
          ip4 68 36 40 10.0.0.2\nclose\nclose",
     );
@@ -251,7 +264,7 @@ fn metrics_of_16_bits() {
         0x2009,
         "0001 FFFF 00FFFFFF 0A000002 00 FF FFFF",
         "u32 28 20 22 1\nu16 22 22 24 65535\nu32 25 24 28 16777215\nip4 30 28 32 10.0.0.2
-         open 29 32 36\nopen 97 32 36\nu8 80 32 33 0\nu8 81 33 34 255\nu16 82 34 36 65535
+         open 29 32 36 1\nopen 97 32 36 4\nu8 80 32 33 0\nu8 81 33 34 255\nu16 82 34 36 65535
          ip6 83 36 36 00000000000000000000000000000000\nclose\nclose",
     );
 }
@@ -269,7 +282,7 @@ fn no_metrics() {
             .map(|strip| strip.bytes().to_vec());
         assert_eq!(strip, Ok(listing::strip(&listing)));
         let list = format!(
-            "open 114 0 20\nopen 112 0 20\n{header}u8 8 4 5 1\nu32 9 5 8 16777215\nclose\nclose"
+            "open 114 0 20 1\nopen 112 0 20 10\n{header}u8 8 4 5 1\nu32 9 5 8 16777215\nclose\nclose"
         );
         let strip = Buffer::new()
             .lsa_headers(Version::V2, &data, 0)
@@ -280,14 +293,14 @@ fn no_metrics() {
         Version::V3,
         0x2002,
         "FF FFFFFF",
-        "u32 14 21 24 16777215\nopen 16 24 24\nclose",
+        "u32 14 21 24 16777215\nopen 16 24 24 0\nclose",
     );
     check(
         Version::V3,
         0x0008,
         "FF FFFFFF FE800000000000000000000000000001 00FFFFFF",
         "u8 26 20 21 255\nu32 14 21 24 16777215\nip6 27 24 40 fe800000000000000000000000000001
-         u32 28 40 44 16777215\nopen 29 44 44\nclose",
+         u32 28 40 44 16777215\nopen 29 44 44 0\nclose",
     );
 }
 
@@ -320,7 +333,7 @@ fn one_bit_less_is_a_cost() {
             3,
             &format!("FFFF0000 00 {cost:06X} 08 {cost:06X}"),
             &format!(
-                "ip4 17 20 24 255.255.0.0\nu32 19 25 28 {cost}\nopen 20 28 32\nopen 97 28 32
+                "ip4 17 20 24 255.255.0.0\nu32 19 25 28 {cost}\nopen 20 28 32 1\nopen 97 28 32 2
                  u8 81 28 29 8\nu32 82 29 32 {cost}\nclose\nclose"
             ),
         );
@@ -330,7 +343,7 @@ fn one_bit_less_is_a_cost() {
             &format!("FFFF0000 FF {cost:06X} 00000000 00000000 7F {cost:06X} 00000000 00000000"),
             &format!(
                 "ip4 17 20 24 255.255.0.0\nu8 13 24 25 1\nu32 19 25 28 {cost}\nip4 21 28 32 0.0.0.0
-                 u32 22 32 36 0\nopen 20 36 48\nopen 97 36 48\nu8 80 36 37 0\nu8 81 36 37 127
+                 u32 22 32 36 0\nopen 20 36 48 1\nopen 97 36 48 5\nu8 80 36 37 0\nu8 81 36 37 127
                  u32 82 37 40 {cost}\nip4 83 40 44 0.0.0.0\nu32 84 44 48 0\nclose\nclose"
             ),
         );
@@ -391,7 +404,7 @@ fn entries() {
     );
     let shown = format!("{first:?}");
     assert!(
-        shown.contains("Unreachable") && shown.contains("None"),
+        shown.contains("Unreachable") && shown.contains("value: None"),
         "{shown}"
     );
     // No other entry says it.

@@ -33,6 +33,48 @@ fn entries_are_the_strip() {
     assert!(strips > 1_000, "{strips}");
 }
 
+/// An open entry says how many entries stand directly inside, and no other says
+/// so: counted again from the strip.
+#[test]
+fn counts_of_containers() {
+    let mut buffer = Buffer::new();
+    let (mut containers, mut empty, mut most) = (0, 0, 0);
+    for class in [
+        Class::Structured,
+        Class::Tos,
+        Class::Prefix,
+        Class::Large,
+        Class::Block,
+    ] {
+        inputs::of_class(class, 2, 20, &mut |input| {
+            let Ok(strip) = run(&mut buffer, &input) else {
+                return;
+            };
+            // What the containers that are open say, and what stands in each so far.
+            let mut open: Vec<(u32, u32)> = Vec::new();
+            for entry in strip {
+                assert_eq!(entry.count().is_some(), entry.kind() == Kind::Open);
+                if entry.kind() == Kind::Close {
+                    let (says, inside) = open.pop().expect("a close has an open");
+                    assert_eq!(says, inside, "{input:?}");
+                    containers += 1;
+                    empty += usize::from(says == 0);
+                    most = most.max(says);
+                    continue;
+                }
+                if let Some((_, inside)) = open.last_mut() {
+                    *inside += 1;
+                }
+                open.extend(entry.count().map(|says| (says, 0)));
+            }
+            assert!(open.is_empty(), "{input:?}");
+        });
+    }
+    assert!(containers > 50_000 && empty > 100, "{containers} {empty}");
+    // The attached routers that a Network-LSA of 65,535 bytes has room for.
+    assert_eq!(most, 16_377);
+}
+
 /// A new buffer and one that has held longer strips give the same.
 #[test]
 fn buffer_grows_and_is_used_again() {
@@ -43,7 +85,7 @@ fn buffer_grows_and_is_used_again() {
         .unwrap()
         .bytes()
         .len();
-    assert_eq!(length, 11 + 100 * 111);
+    assert_eq!(length, 15 + 100 * 115);
     inputs::of_class(Class::Structured, 3, 5, &mut |input| {
         let mut fresh = Buffer::new();
         assert_eq!(run(&mut used, &input), run(&mut fresh, &input));
@@ -85,8 +127,8 @@ fn refusals_by_number() {
             4,
         ),
         (
-            ospf_strip::lsa_headers(v2, &[], 0, &mut [0; 10]).unwrap_err(),
-            Refusal::Room { needed: 11 },
+            ospf_strip::lsa_headers(v2, &[], 0, &mut [0; 14]).unwrap_err(),
+            Refusal::Room { needed: 15 },
             5,
         ),
         (buffer.lls(&long, 0).unwrap_err(), Refusal::TooLong, 2),
@@ -96,8 +138,8 @@ fn refusals_by_number() {
             3,
         ),
         (
-            ospf_strip::lls(&[0, 0, 0, 1], 0, &mut [0; 44]).unwrap_err(),
-            Refusal::Room { needed: 45 },
+            ospf_strip::lls(&[0, 0, 0, 1], 0, &mut [0; 48]).unwrap_err(),
+            Refusal::Room { needed: 49 },
             5,
         ),
         (
@@ -140,11 +182,11 @@ fn refusals_by_number() {
 /// The packed answers of the walks at the boundary.
 #[test]
 fn packed_answers() {
-    let mut strip = [0xA5; 11];
-    let refused = exports::ospf_lsa_headers(2, &[], 0, &mut strip[..10]);
-    assert_eq!(refused, 0x05_0000_000B);
-    assert_eq!(strip, [0xA5; 11]);
-    assert_eq!(exports::ospf_lsa_headers(2, &[], 0, &mut strip), 11);
+    let mut strip = [0xA5; 15];
+    let refused = exports::ospf_lsa_headers(2, &[], 0, &mut strip[..14]);
+    assert_eq!(refused, 0x05_0000_000F);
+    assert_eq!(strip, [0xA5; 15]);
+    assert_eq!(exports::ospf_lsa_headers(2, &[], 0, &mut strip), 15);
     assert_eq!(strip[..2], [1, 114]);
     let refused = exports::ospf_lsu_lsas(9, &[0; 4], 1, 0, &mut strip);
     assert_eq!(refused, 0x01_0000_0000);
@@ -156,21 +198,21 @@ fn packed_answers() {
 #[test]
 fn packed_answers_of_blocks() {
     let data = hex("FFF6 0003 0001 0004 00000001 00");
-    let mut strip = [0xA5; 75];
+    let mut strip = [0xA5; 79];
     assert_eq!(exports::ospf_lls(&data[..11], 0, &mut strip), 0);
-    let refused = exports::ospf_lls(&data, 0, &mut strip[..44]);
-    assert_eq!(refused, 0x05_0000_002D);
+    let refused = exports::ospf_lls(&data, 0, &mut strip[..48]);
+    assert_eq!(refused, 0x05_0000_0031);
     assert_eq!(exports::block_length(refused), 0);
-    assert_eq!(strip, [0xA5; 75]);
+    assert_eq!(strip, [0xA5; 79]);
     let found = exports::ospf_lls(&data, 0, &mut strip);
-    assert_eq!(found, 12 << 40 | 45);
-    assert_eq!(exports::unpack(found), (0, 45));
+    assert_eq!(found, 12 << 40 | 49);
+    assert_eq!(exports::unpack(found), (0, 49));
     assert_eq!(exports::block_length(found), 12);
     // The longest, with a length field that has each of its bits.
     let mut longest = vec![0; 65_535];
     longest[2..4].fill(0xFF);
     let found = exports::ospf_auth_trailer(&longest, 0, &mut strip);
-    assert_eq!(found, 65_535 << 40 | 75);
+    assert_eq!(found, 65_535 << 40 | 79);
     let refused = exports::ospf_auth_trailer(&longest, u64::MAX, &mut strip);
     assert_eq!(refused, 0x03_0000_0000);
 }

@@ -21,7 +21,8 @@ fn stored(name: &str) -> Vec<u8> {
 fn check(name: &str, made: &[u8]) {
     let stored = stored(name);
     assert!(stored == made, "{name} is not what the command makes");
-    assert!(stored.len() < 1_000_000, "{}", stored.len());
+    // The program that replays it reads files that are shorter.
+    assert!(stored.len() < 1_048_576, "{}", stored.len());
     let samples = read(&stored).expect("samples");
     assert!(write(samples) == stored, "{name} read and written again");
 }
@@ -52,7 +53,7 @@ const DATA: &str = "00 01 02 01 0A 00 00 01 0A 00 00 01 80 00 00 01 12 34 00 18 
 /// The worked listing of the requirements at offset 24, as a sample.
 fn worked() -> Sample {
     let strip = listing::strip(
-        "open 114 24 44\n open 112 24 44\n u16 0 24 26 1\n u8 1 26 27 2\n u8 2 27 28 1\n \
+        "open 114 24 44 1\n open 112 24 44 8\n u16 0 24 26 1\n u8 1 26 27 2\n u8 2 27 28 1\n \
          ip4 3 28 32 10.0.0.1\n ip4 4 32 36 10.0.0.1\n u32 5 36 40 2147483649\n \
          u16 6 40 42 4660\n u16 7 42 44 24\n close\n close\n bytes 25 44 45",
     );
@@ -61,11 +62,11 @@ fn worked() -> Sample {
         walk: Walk::Headers,
         count: 0,
         offset: 24,
-        room: 140,
+        room: 148,
         data: hex(DATA),
         answer: Answer {
             number: 0,
-            length: 132,
+            length: 140,
             records: 1,
             tail: 1,
             block: 0,
@@ -78,9 +79,9 @@ fn worked() -> Sample {
 #[test]
 fn format_by_hand() {
     let call = hex(&format!(
-        "02 00 00000000 0000000000000018 0000008C 00000015 {DATA}"
+        "02 00 00000000 0000000000000018 00000094 00000015 {DATA}"
     ));
-    let answer = hex("00 00000084 00000001 00000001");
+    let answer = hex("00 0000008C 00000001 00000001");
     let bytes = [call, answer, worked().strip].concat();
     assert_eq!(write([worked()]), bytes);
     assert_eq!(read(&bytes), Some(vec![worked()]));
@@ -91,15 +92,15 @@ fn format_by_hand() {
 /// length stands in the place of the records.
 #[test]
 fn blocks_by_hand() {
-    let call = "07 04 00000000 0000000000000000 0000004B";
+    let call = "07 04 00000000 0000000000000000 0000004F";
     let trailer = "0001 0010 0000 0064 0000000000000002";
     let strip = listing::strip(
-        "open 152 0 16\n u16 144 0 2 1\n u16 145 2 4 16\n u16 146 6 8 100\n \
+        "open 152 0 16 5\n u16 144 0 2 1\n u16 145 2 4 16\n u16 146 6 8 100\n \
          u64 147 8 16 2\n bytes 148 16 16\n close",
     );
     let found = [
         hex(&format!("{call} 00000011 {trailer} FF")),
-        hex("00 0000004B 00000010 00000000"),
+        hex("00 0000004F 00000010 00000000"),
         strip,
     ];
     let absent = hex(&format!(
@@ -111,7 +112,7 @@ fn blocks_by_hand() {
     assert_eq!(samples[1].answer, Answer::default());
     assert!(samples.iter().all(|s| s.answer.records == 0));
     for sample in &samples {
-        let mut strip = vec![0; 75];
+        let mut strip = vec![0; 79];
         let answer = call_of(sample).run().lend(&mut strip);
         assert_eq!(answer, sample.answer);
         assert!(strip.starts_with(&sample.strip));

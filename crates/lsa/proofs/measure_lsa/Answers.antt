@@ -9,7 +9,7 @@ use Rattle.lsa.proofs.measure_lsa.Goals as goal
 use Rattle.lsa.proofs.measure_lsa.Goals.{After-measure_unparsed, After-measure_unparsed-in-Raw}
 
 -- The lengths that are added are no more than the version's bound.
-decoded : (g : Over) (c : After-measure_unparsed g) → c.measure_header-header.result + (c.in-Decoded.length + c.measure_unparsed.result) ≤ 18 * length c.args.lsa.part.bytes.now
+decoded : (g : Over) (c : After-measure_unparsed g) → c.measure_header-header.result + (c.in-Decoded.length + c.measure_unparsed.result) ≤ 19 * length c.args.lsa.part.bytes.now
 unfolding whole
 decoded g c =
     let v = g.V.Version in
@@ -17,7 +17,7 @@ decoded g c =
     let u = rw c.rest-body.ensures.0 at (c.measure_unparsed.ensures.by_index v.UNPARSED 20) in
     omega (arith, c.measure_header-header.ensures 0, u, length_decoded (v.header d 0) v.BODY v.UNPARSED (v.body d 0) (drop 20 d) 20 _ _ _ (c.measure_body.ensures 0) c.in-Decoded.is, g.met.V.Version.bound d 0 c.args.lsa.has_header)
 
-undecoded : (g : Over) (c : After-measure_unparsed-in-Raw g) → c.measure_header-header.result + c.measure_unparsed-in-Raw.result ≤ 18 * length c.args.lsa.part.bytes.now
+undecoded : (g : Over) (c : After-measure_unparsed-in-Raw g) → c.measure_header-header.result + c.measure_unparsed-in-Raw.result ≤ 19 * length c.args.lsa.part.bytes.now
 unfolding whole
 undecoded g c =
     let v = g.V.Version in

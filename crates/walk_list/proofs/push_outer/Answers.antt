@@ -26,4 +26,4 @@ returns g c =
     let d = a.data.bytes.now in
     let o = a.data.offset in
     let b = rw (c.unparsed_id.ensures, c.push_list-end.ensures.end_value) at c.push_unparsed.ensures in
-    outer_writes a.version (g.R.Record.entries d o) d o a.first (cut g.R.Record.rule d a.count a.first) c.push_list-end.ensures.wrote b
+    outer_writes a.version (g.R.Record.entries d o) d o a.first (cut g.R.Record.rule d a.count a.first) c.push_list-end.ensures.wrote b.wrote

@@ -6,8 +6,8 @@ use super::writer::{Writer, be16, be64};
 use super::{out_of_bounds, packed};
 
 /// What the strip of each takes.
-const LLS_LENGTH: usize = 45;
-const AUTH_TRAILER_LENGTH: usize = 75;
+const LLS_LENGTH: usize = 49;
+const AUTH_TRAILER_LENGTH: usize = 79;
 
 /// Absent is no refusal, and has nothing in its answer.
 const ABSENT: u64 = 0;
@@ -33,7 +33,7 @@ pub fn lls(data: &[u8], offset: u64, strip: &mut [u8]) -> u64 {
     };
     let o = offset as u32;
     Writer::new(strip)
-        .open(136, o, length)
+        .open(136, o, length, 3)
         .u16(128, o, be16(first, 0))
         .u16(129, o + 2, words)
         .bytes(130, o + 4, length - 4)
@@ -61,7 +61,7 @@ pub fn auth_trailer(data: &[u8], offset: u64, strip: &mut [u8]) -> u64 {
     };
     let o = offset as u32;
     Writer::new(strip)
-        .open(152, o, length.into())
+        .open(152, o, length.into(), 5)
         .u16(144, o, be16(first, 0))
         .u16(145, o + 2, length)
         .u16(146, o + 6, be16(first, 6))

@@ -22,7 +22,7 @@ const OUTER: u8 = 114;
 type Header = [u8; 20];
 
 /// What an array or object takes beside its contents.
-const CONTAINER: usize = 11;
+const CONTAINER: usize = 15;
 /// A range of bytes.
 const BYTES: usize = 10;
 
@@ -42,13 +42,16 @@ pub fn lsa_headers(version: u8, data: &[u8], offset: u64, strip: &mut [u8]) -> u
         return packed(5, length);
     };
     let o = offset as u32;
-    let mut w = Writer::new(strip).open(OUTER, o, 20 * headers.len() as u32);
+    let count = headers.len() as u32;
+    let mut w = Writer::new(strip).open(OUTER, o, 20 * count, count);
     let mut at = o;
     for header in headers {
-        w = w.open(HEADER, at, 20);
         w = match version {
-            2 => v2::write_header(w, header, at),
-            _ => v3::write_header(w, header, at),
+            2 => {
+                let w = w.open(HEADER, at, 20, v2::header_entries(header));
+                v2::write_header(w, header, at)
+            }
+            _ => v3::write_header(w.open(HEADER, at, 20, v3::HEADER_ENTRIES), header, at),
         };
         w = w.close();
         at += 20;
@@ -64,12 +67,14 @@ pub fn lsu_lsas(version: u8, data: &[u8], count: u32, offset: u64, strip: &mut [
         return packed(number, 0);
     }
     let mut length = CONTAINER;
+    let mut records = 0;
     let mut rest = &data[4..];
     for _ in 0..count {
         let Some((record, after)) = record(rest) else {
             break;
         };
         length += CONTAINER + measure(version, record);
+        records += 1;
         rest = after;
     }
     length += measure_rest(rest);
@@ -78,7 +83,7 @@ pub fn lsu_lsas(version: u8, data: &[u8], count: u32, offset: u64, strip: &mut [
     };
     let o = offset as u32;
     let end = data.len() - rest.len();
-    let w = write_lsas(Writer::new(strip), version, &data[4..end], o + 4);
+    let w = write_lsas(Writer::new(strip), version, &data[4..end], records, o + 4);
     write_rest(w, unparsed(version), rest, o + end as u32);
     packed(0, length)
 }
@@ -155,21 +160,24 @@ fn measure(version: u8, lsa: Lsa<'_>) -> usize {
     }
 }
 
-fn write<'a>(w: Writer<'a>, version: u8, lsa: Lsa<'_>, o: u32) -> Writer<'a> {
+fn write<'a>(w: Writer<'a>, version: u8, lsa: Lsa<'_>, o: u32) -> (Writer<'a>, u32) {
     match version {
         2 => v2::write(w, lsa, o),
         _ => v3::write(w, lsa, o),
     }
 }
 
-/// The outer array of the records that `data` is made of.
-fn write_lsas<'a>(w: Writer<'a>, version: u8, data: &[u8], o: u32) -> Writer<'a> {
-    let mut w = w.open(OUTER, o, data.len() as u32);
+/// The outer array of the records that `data` is made of; there are so many.
+fn write_lsas<'a>(w: Writer<'a>, version: u8, data: &[u8], records: u32, o: u32) -> Writer<'a> {
+    let mut w = w.open(OUTER, o, data.len() as u32, records);
     let mut rest = data;
     let mut at = o;
     while let Some((record, after)) = record(rest) {
         let length = (rest.len() - after.len()) as u32;
-        w = write(w.open(LSA, at, length), version, record, at).close();
+        let (object, inside) = w.open_later();
+        let (inside, entries) = write(inside, version, record, at);
+        object.open(LSA, at, length, entries);
+        w = inside.close();
         rest = after;
         at += length;
     }
@@ -203,7 +211,8 @@ fn measure_routers(routers: &[[u8; 4]]) -> usize {
 }
 
 fn write_routers<'a>(w: Writer<'a>, id: u8, routers: &[[u8; 4]], o: u32) -> Writer<'a> {
-    let mut w = w.open(id, o, 4 * routers.len() as u32);
+    let count = routers.len() as u32;
+    let mut w = w.open(id, o, 4 * count, count);
     let mut at = o;
     for router in routers {
         w = w.ipv4(98, at, u32::from_be_bytes(*router));

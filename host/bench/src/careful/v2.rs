@@ -17,18 +17,21 @@ pub fn measure((header, body): Lsa<'_>) -> usize {
     }
 }
 
-pub fn write<'a>(w: Writer<'a>, (header, body): Lsa<'_>, o: u32) -> Writer<'a> {
+/// An LSA; also how many entries it has, those inside its arrays left out.
+pub fn write<'a>(w: Writer<'a>, (header, body): Lsa<'_>, o: u32) -> (Writer<'a>, u32) {
     let w = write_header(w, header, o);
-    let at = o + 20;
-    match write_body(w, header, body, at) {
-        (w, Some(consumed)) => write_rest(w, 25, &body[consumed..], at + consumed as u32),
-        (w, None) => write_rest(w, 23, body, at),
-    }
+    let (w, id, consumed, entries) = match write_body(w, header, body, o + 20) {
+        (w, Some((consumed, entries))) => (w, 25, consumed, entries),
+        (w, None) => (w, 23, 0, 0),
+    };
+    let rest = &body[consumed..];
+    let entries = header_entries(header) + entries + u32::from(!rest.is_empty());
+    (write_rest(w, id, rest, o + 20 + consumed as u32), entries)
 }
 
-/// What is left to write, and how many bytes of the body the entries cover;
-/// none of a body that is raw.
-type Written<'a> = (Writer<'a>, Option<usize>);
+/// What is left to write; how many bytes of the body the entries cover, and how
+/// many they are, those inside arrays left out; none of a body that is raw.
+type Written<'a> = (Writer<'a>, Option<(usize, u32)>);
 
 fn is_opaque(header: &Header) -> bool {
     matches!(header[3], 9..=11)
@@ -36,6 +39,11 @@ fn is_opaque(header: &Header) -> bool {
 
 pub fn measure_header(header: &Header) -> usize {
     if is_opaque(header) { 125 } else { 100 }
+}
+
+#[inline]
+pub fn header_entries(header: &Header) -> u32 {
+    if is_opaque(header) { 10 } else { 8 }
 }
 
 #[inline]
@@ -73,7 +81,10 @@ fn write_body<'a>(w: Writer<'a>, header: &Header, body: &[u8], o: u32) -> Writte
         2 => write_network(w, body, o),
         3 | 4 => write_summary(w, body, o),
         5 | 7 => write_external(w, body, o),
-        9..=11 if has_tlvs(header[4]) => (w.bytes(24, o, body.len() as u32), Some(body.len())),
+        9..=11 if has_tlvs(header[4]) => {
+            let w = w.bytes(24, o, body.len() as u32);
+            (w, Some((body.len(), 1)))
+        }
         _ => (w, None),
     }
 }
@@ -101,7 +112,7 @@ fn measure_router(body: &[u8]) -> Option<Measured> {
         let Some(((_, tos), after)) = link(rest) else {
             break;
         };
-        length += CONTAINER + 62 + measure_tos(tos.len(), 36);
+        length += CONTAINER + 62 + measure_tos(tos.len(), 40);
         rest = after;
     }
     Some((length, body.len() - rest.len()))
@@ -120,6 +131,7 @@ fn write_router<'a>(w: Writer<'a>, body: &[u8], o: u32) -> Written<'a> {
         .u8(14, o, flags & 1)
         .u16(15, o + 2, count);
     let (array, mut w) = w.open_later();
+    let mut taken = 0;
     let mut rest = links;
     let mut at = o + 4;
     for _ in 0..count {
@@ -127,18 +139,20 @@ fn write_router<'a>(w: Writer<'a>, body: &[u8], o: u32) -> Written<'a> {
             break;
         };
         (w, at) = write_link(w, link, at);
+        taken += 1;
         rest = after;
     }
-    array.open(16, o + 4, at - (o + 4));
-    (w.close(), Some(body.len() - rest.len()))
+    array.open(16, o + 4, at - (o + 4), taken);
+    (w.close(), Some((body.len() - rest.len(), 7)))
 }
 
 /// One link; also where the next one starts.
 #[inline]
 fn write_link<'a>(w: Writer<'a>, (l, tos): Link<'_>, o: u32) -> (Writer<'a>, u32) {
-    let size = 4 * tos.len() as u32;
+    let count = tos.len() as u32;
+    let size = 4 * count;
     let mut w = w
-        .open(96, o, 12 + size)
+        .open(96, o, 12 + size, 5 + u32::from(count > 0))
         .ipv4(64, o, be32(l, 0))
         .ipv4(65, o + 4, be32(l, 4))
         .u8(66, o + 8, l[8])
@@ -146,10 +160,10 @@ fn write_link<'a>(w: Writer<'a>, (l, tos): Link<'_>, o: u32) -> (Writer<'a>, u32
         .u16(68, o + 10, be16(l, 10));
     let mut at = o + 12;
     if !tos.is_empty() {
-        w = w.open(69, at, size);
+        w = w.open(69, at, size, count);
         for t in tos {
             w = w
-                .open(97, at, 4)
+                .open(97, at, 4, 2)
                 .u8(81, at, t[0])
                 .u32(82, at + 2, 2, be16(t, 2).into())
                 .close();
@@ -181,7 +195,7 @@ fn write_network<'a>(w: Writer<'a>, body: &[u8], o: u32) -> Written<'a> {
     };
     let (routers, rest) = routers.as_chunks();
     let w = write_routers(w.ipv4(17, o, be32(mask, 0)), 18, routers, o + 4);
-    (w, Some(body.len() - rest.len()))
+    (w, Some((body.len() - rest.len(), 2)))
 }
 
 /// An array of TOS entries that have a 24-bit metric in their first word, which
@@ -201,7 +215,7 @@ fn measure_route_tos<const N: usize>(tos: &[[u8; N]], each: usize) -> usize {
 fn measure_summary(body: &[u8]) -> Option<Measured> {
     let (f, tos) = body.split_first_chunk::<8>()?;
     let (tos, rest) = tos.as_chunks::<4>();
-    let length = 14 + measure_metric(be24(f, 4)) + measure_route_tos(tos, 36);
+    let length = 14 + measure_metric(be24(f, 4)) + measure_route_tos(tos, 40);
     Some((length, body.len() - rest.len()))
 }
 
@@ -210,13 +224,14 @@ fn write_summary<'a>(w: Writer<'a>, body: &[u8], o: u32) -> Written<'a> {
         return (w, None);
     };
     let (tos, rest) = tos.as_chunks::<4>();
+    let count = tos.len() as u32;
     let mut w = w.ipv4(17, o, be32(f, 0)).metric(19, o + 5, be24(f, 4));
     if !tos.is_empty() {
         let mut at = o + 8;
-        w = w.open(20, at, 4 * tos.len() as u32);
+        w = w.open(20, at, 4 * count, count);
         for t in tos {
             w = w
-                .open(97, at, 4)
+                .open(97, at, 4, 2)
                 .u8(81, at, t[0])
                 .metric(82, at + 1, be24(t, 0))
                 .close();
@@ -224,13 +239,13 @@ fn write_summary<'a>(w: Writer<'a>, body: &[u8], o: u32) -> Written<'a> {
         }
         w = w.close();
     }
-    (w, Some(body.len() - rest.len()))
+    (w, Some((body.len() - rest.len(), 2 + u32::from(count > 0))))
 }
 
 fn measure_external(body: &[u8]) -> Option<Measured> {
     let (f, tos) = body.split_first_chunk::<16>()?;
     let (tos, rest) = tos.as_chunks::<12>();
-    let length = 53 + measure_metric(be24(f, 4)) + measure_route_tos(tos, 75);
+    let length = 53 + measure_metric(be24(f, 4)) + measure_route_tos(tos, 79);
     Some((length, body.len() - rest.len()))
 }
 
@@ -239,6 +254,7 @@ fn write_external<'a>(w: Writer<'a>, body: &[u8], o: u32) -> Written<'a> {
         return (w, None);
     };
     let (tos, rest) = tos.as_chunks::<12>();
+    let count = tos.len() as u32;
     let mut w = w
         .ipv4(17, o, be32(f, 0))
         .u8(13, o + 4, f[4] >> 7)
@@ -247,10 +263,10 @@ fn write_external<'a>(w: Writer<'a>, body: &[u8], o: u32) -> Written<'a> {
         .u32(22, o + 12, 4, be32(f, 12));
     if !tos.is_empty() {
         let mut at = o + 16;
-        w = w.open(20, at, 12 * tos.len() as u32);
+        w = w.open(20, at, 12 * count, count);
         for t in tos {
             w = w
-                .open(97, at, 12)
+                .open(97, at, 12, 5)
                 .u8(80, at, t[0] >> 7)
                 .u8(81, at, t[0] & 0x7F)
                 .metric(82, at + 1, be24(t, 0))
@@ -261,5 +277,5 @@ fn write_external<'a>(w: Writer<'a>, body: &[u8], o: u32) -> Written<'a> {
         }
         w = w.close();
     }
-    (w, Some(body.len() - rest.len()))
+    (w, Some((body.len() - rest.len(), 5 + u32::from(count > 0))))
 }

@@ -6,8 +6,9 @@ use super::{
     write_routers,
 };
 
-/// What the fields of a header take.
+/// What the fields of a header take, and how many they are.
 pub const HEADER_LENGTH: usize = 90;
+pub const HEADER_ENTRIES: u32 = 7;
 
 /// What a body's entries take, and how many of its bytes they cover.
 type Measured = (usize, usize);
@@ -19,18 +20,21 @@ pub fn measure((header, body): Lsa<'_>) -> usize {
     }
 }
 
-pub fn write<'a>(w: Writer<'a>, (header, body): Lsa<'_>, o: u32) -> Writer<'a> {
+/// An LSA; also how many entries it has, those inside its arrays left out.
+pub fn write<'a>(w: Writer<'a>, (header, body): Lsa<'_>, o: u32) -> (Writer<'a>, u32) {
     let w = write_header(w, header, o);
-    let at = o + 20;
-    match write_body(w, function(header), body, at) {
-        (w, Some(consumed)) => write_rest(w, 33, &body[consumed..], at + consumed as u32),
-        (w, None) => write_rest(w, 31, body, at),
-    }
+    let (w, id, consumed, entries) = match write_body(w, function(header), body, o + 20) {
+        (w, Some((consumed, entries))) => (w, 33, consumed, entries),
+        (w, None) => (w, 31, 0, 0),
+    };
+    let rest = &body[consumed..];
+    let entries = HEADER_ENTRIES + entries + u32::from(!rest.is_empty());
+    (write_rest(w, id, rest, o + 20 + consumed as u32), entries)
 }
 
-/// What is left to write, and how many bytes of the body the entries cover;
-/// none of a body that is raw.
-type Written<'a> = (Writer<'a>, Option<usize>);
+/// What is left to write; how many bytes of the body the entries cover, and how
+/// many they are, those inside arrays left out; none of a body that is raw.
+type Written<'a> = (Writer<'a>, Option<(usize, u32)>);
 
 #[inline]
 pub fn write_header<'a>(w: Writer<'a>, h: &Header, o: u32) -> Writer<'a> {
@@ -75,7 +79,7 @@ fn write_body<'a>(w: Writer<'a>, function: u16, body: &[u8], o: u32) -> Written<
         5 | 7 => write_external(w, body, o),
         8 => write_link_lsa(w, body, o),
         9 => write_intra_area_prefix(w, body, o),
-        12 | 35 | 36 | 37 | 39 | 42 => write_tlvs(w, body, 0, o),
+        12 | 35 | 36 | 37 | 39 | 42 => (write_tlvs(w, body, 0, o), Some((body.len(), 1))),
         33 | 34 | 40 => write_extended(w, function, body, o),
         41 => write_extended_prefix(w, body, o),
         _ => (w, None),
@@ -104,9 +108,8 @@ fn write_references<'a>(w: Writer<'a>, f: &[u8; 12], o: u32) -> Writer<'a> {
 }
 
 /// TLVs from `first` to the body's end.
-fn write_tlvs<'a>(w: Writer<'a>, body: &[u8], first: u32, o: u32) -> Written<'a> {
-    let size = body.len() as u32 - first;
-    (w.bytes(32, o + first, size), Some(body.len()))
+fn write_tlvs<'a>(w: Writer<'a>, body: &[u8], first: u32, o: u32) -> Writer<'a> {
+    w.bytes(32, o + first, body.len() as u32 - first)
 }
 
 /// Extended LSAs for routers, networks and links.
@@ -114,12 +117,13 @@ fn write_extended<'a>(w: Writer<'a>, function: u16, body: &[u8], o: u32) -> Writ
     let Some(first) = body.first_chunk::<4>() else {
         return (w, None);
     };
-    let w = match function {
-        33 => write_router_flags(w, first[0], o),
-        40 => w.u8(26, o, first[0]),
-        _ => w,
+    let (w, before) = match function {
+        33 => (write_router_flags(w, first[0], o), 5),
+        40 => (w.u8(26, o, first[0]), 1),
+        _ => (w, 0),
     };
-    write_tlvs(write_options(w, first, o), body, 4, o)
+    let w = write_tlvs(write_options(w, first, o), body, 4, o);
+    (w, Some((body.len(), before + 2)))
 }
 
 /// The extended intra-area-prefix LSA.
@@ -127,13 +131,14 @@ fn write_extended_prefix<'a>(w: Writer<'a>, body: &[u8], o: u32) -> Written<'a> 
     let Some(first) = body.first_chunk() else {
         return (w, None);
     };
-    write_tlvs(write_references(w, first, o), body, 12, o)
+    let w = write_tlvs(write_references(w, first, o), body, 12, o);
+    (w, Some((body.len(), 4)))
 }
 
 fn measure_router(body: &[u8]) -> Option<Measured> {
     let (_, links) = body.split_first_chunk::<4>()?;
     let (links, rest) = links.as_chunks::<16>();
-    let length = 55 + 14 + CONTAINER + links.len() * 76;
+    let length = 55 + 14 + CONTAINER + links.len() * 80;
     Some((length, body.len() - rest.len()))
 }
 
@@ -144,10 +149,11 @@ fn write_router<'a>(w: Writer<'a>, body: &[u8], o: u32) -> Written<'a> {
     let (links, rest) = links.as_chunks::<16>();
     let mut w = write_options(write_router_flags(w, first[0], o), first, o);
     let mut at = o + 4;
-    w = w.open(15, at, 16 * links.len() as u32);
+    let count = links.len() as u32;
+    w = w.open(15, at, 16 * count, count);
     for l in links {
         w = w
-            .open(96, at, 16)
+            .open(96, at, 16, 5)
             .u8(64, at, l[0])
             .u16(65, at + 2, be16(l, 2))
             .u32(66, at + 4, 4, be32(l, 4))
@@ -156,7 +162,7 @@ fn write_router<'a>(w: Writer<'a>, body: &[u8], o: u32) -> Written<'a> {
             .close();
         at += 16;
     }
-    (w.close(), Some(body.len() - rest.len()))
+    (w.close(), Some((body.len() - rest.len(), 7)))
 }
 
 fn measure_network(body: &[u8]) -> Option<Measured> {
@@ -171,7 +177,7 @@ fn write_network<'a>(w: Writer<'a>, body: &[u8], o: u32) -> Written<'a> {
     };
     let (routers, rest) = routers.as_chunks();
     let w = write_routers(write_options(w, first, o), 16, routers, o + 4);
-    (w, Some(body.len() - rest.len()))
+    (w, Some((body.len() - rest.len(), 2)))
 }
 
 fn measure_inter_area_router(body: &[u8]) -> Option<Measured> {
@@ -186,7 +192,7 @@ fn write_inter_area_router<'a>(w: Writer<'a>, body: &[u8], o: u32) -> Written<'a
     let w = write_options(w, f, o)
         .metric(17, o + 5, be24(f, 4))
         .ipv4(21, o + 8, be32(f, 8));
-    (w, Some(12))
+    (w, Some((12, 3)))
 }
 
 /// Octets of a prefix length; none above 128.
@@ -216,7 +222,7 @@ fn write_inter_area_prefix<'a>(w: Writer<'a>, body: &[u8], o: u32) -> Written<'a
         .u8(18, o + 4, f[4])
         .u8(19, o + 5, f[5])
         .ipv6(20, o + 8, prefix);
-    (w, Some(8 + prefix.len()))
+    (w, Some((8 + prefix.len(), 4)))
 }
 
 /// The parts of an external LSA, all of them in its body.
@@ -283,20 +289,23 @@ fn write_external<'a>(w: Writer<'a>, body: &[u8], o: u32) -> Written<'a> {
         .u8(19, o + 5, f[5])
         .u16(22, o + 6, be16(f, 6))
         .ipv6(20, o + 8, x.prefix);
-    let mut consumed = 8 + x.prefix.len();
+    let (mut consumed, mut entries) = (8 + x.prefix.len(), 9);
     if let Some(forwarding) = x.forwarding {
         w = w.ipv6(23, o + consumed as u32, forwarding);
         consumed += 16;
+        entries += 1;
     }
     if let Some(tag) = x.tag {
         w = w.u32(24, o + consumed as u32, 4, be32(tag, 0));
         consumed += 4;
+        entries += 1;
     }
     if let Some(reference) = x.reference {
         w = w.u32(25, o + consumed as u32, 4, be32(reference, 0));
         consumed += 4;
+        entries += 1;
     }
-    (w, Some(consumed))
+    (w, Some((consumed, entries)))
 }
 
 /// An entry of a prefix list: its first four bytes and its octets.
@@ -335,6 +344,7 @@ fn write_prefixes<'a, const METRIC: bool>(
     o: u32,
 ) -> (Writer<'a>, usize) {
     let (array, mut w) = w.open_later();
+    let mut taken = 0;
     let mut rest = list;
     let mut at = o;
     for _ in 0..count {
@@ -342,21 +352,25 @@ fn write_prefixes<'a, const METRIC: bool>(
             break;
         };
         let size = 4 + octets.len() as u32;
-        w = w.open(97, at, size).u8(80, at, f[0]).u8(81, at + 1, f[1]);
+        w = w
+            .open(97, at, size, 3 + u32::from(METRIC))
+            .u8(80, at, f[0])
+            .u8(81, at + 1, f[1]);
         if METRIC {
             w = w.u16(82, at + 2, be16(f, 2));
         }
         w = w.ipv6(83, at + 4, octets).close();
         at += size;
+        taken += 1;
         rest = after;
     }
-    array.open(29, o, at - o);
+    array.open(29, o, at - o, taken);
     (w.close(), list.len() - rest.len())
 }
 
 fn measure_link_lsa(body: &[u8]) -> Option<Measured> {
     let (f, list) = body.split_first_chunk::<24>()?;
-    let (length, consumed) = measure_prefixes(list, be32(f, 20), 59);
+    let (length, consumed) = measure_prefixes(list, be32(f, 20), 63);
     Some((11 + 14 + 26 + 14 + length, 24 + consumed))
 }
 
@@ -368,12 +382,12 @@ fn write_link_lsa<'a>(w: Writer<'a>, body: &[u8], o: u32) -> Written<'a> {
         .ipv6(27, o + 4, &f[4..20])
         .u32(28, o + 20, 4, be32(f, 20));
     let (w, consumed) = write_prefixes::<false>(w, list, be32(f, 20), o + 24);
-    (w, Some(24 + consumed))
+    (w, Some((24 + consumed, 5)))
 }
 
 fn measure_intra_area_prefix(body: &[u8]) -> Option<Measured> {
     let (f, list) = body.split_first_chunk::<12>()?;
-    let (length, consumed) = measure_prefixes(list, be16(f, 0).into(), 71);
+    let (length, consumed) = measure_prefixes(list, be16(f, 0).into(), 75);
     Some((14 + 40 + length, 12 + consumed))
 }
 
@@ -384,5 +398,5 @@ fn write_intra_area_prefix<'a>(w: Writer<'a>, body: &[u8], o: u32) -> Written<'a
     let count = be16(f, 0).into();
     let w = write_references(w.u32(28, o, 2, count), f, o);
     let (w, consumed) = write_prefixes::<true>(w, list, count, o + 12);
-    (w, Some(12 + consumed))
+    (w, Some((12 + consumed, 5)))
 }

@@ -51,12 +51,15 @@ impl<'a> Writer<'a> {
         (entry, rest)
     }
 
+    /// An opening of a container with so many entries directly inside.
     #[inline]
-    pub fn open(self, id: u8, start: u32, size: u32) -> Writer<'a> {
-        self.entry::<10>(OPEN, id, start, size).1
+    pub fn open(self, id: u8, start: u32, size: u32, count: u32) -> Writer<'a> {
+        let (entry, rest) = self.entry::<14>(OPEN, id, start, size);
+        entry[10..].copy_from_slice(&count.to_be_bytes());
+        rest
     }
 
-    /// An opening whose range is not known yet.
+    /// An opening whose range or count is not known yet.
     #[inline]
     pub fn open_later(self) -> (Opening<'a>, Writer<'a>) {
         let (entry, rest) = self.take();
@@ -133,12 +136,12 @@ impl<'a> Writer<'a> {
 }
 
 /// The place of an opening.
-pub struct Opening<'a>(&'a mut [u8; 10]);
+pub struct Opening<'a>(&'a mut [u8; 14]);
 
 impl Opening<'_> {
     #[inline]
-    pub fn open(self, id: u8, start: u32, size: u32) {
-        Writer(self.0).open(id, start, size);
+    pub fn open(self, id: u8, start: u32, size: u32, count: u32) {
+        Writer(self.0).open(id, start, size, count);
     }
 }
 

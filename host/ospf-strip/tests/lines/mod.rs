@@ -9,7 +9,7 @@ pub fn line(entry: &Entry) -> String {
         return word.to_string();
     };
     let value = match entry.value() {
-        None => String::new(),
+        None => entry.count().map_or(String::new(), |n| n.to_string()),
         Some(Value::Ipv6(v)) => v.octets().iter().map(|b| format!("{b:02x}")).collect(),
         Some(value) => value.to_string(),
     };

@@ -26,7 +26,7 @@ returns-clause-wrote g c =
     let e = rw c.SIZE.ensures at c.range.ensures in
     let q = fixed_cut g.I.Item.SIZE b.bytes.now c.args.count c.args.first c.requires.in_bounds in
     let h = rw e.0 at c.begin_container.ensures in
-    listed c.args.id (g.I.Item.entries b.bytes.now b.offset) b.offset c.args.first (cut (fixed_rule g.I.Item.SIZE) c.args.body.bytes.now c.args.count c.args.first) (omega (arith, e.1, q.1)) h c.push_items.ensures c.end_container.ensures
+    listed c.args.id (g.I.Item.entries b.bytes.now b.offset) b.offset c.args.first (cut (fixed_rule g.I.Item.SIZE) c.args.body.bytes.now c.args.count c.args.first) (g.met.I.Item.one b.bytes.now b.offset) (sym q.0) (omega (arith, e.1, q.1)) h c.push_items.ensures c.end_container.ensures
 
 pub returns-clause-end_value : goal.returns-clause-end_value
 returns-clause-end_value g c = rw c.SIZE.ensures (sym (fixed_cut _ _ _ _ c.requires.in_bounds).1)

@@ -1,26 +1,31 @@
+use Prim.Native.Nat.{◌+◌}
 use native.Mathlib.Omega.{arith}
-use Rattle.format.specs.Cut.{cut}
+use mathlib.Core.Path.{◌≡◌, refl, sym, ◌∙◌}
+use mathlib.Core.List.{flat_map}
+use Rattle.format.specs.Body.{listing}
+use Rattle.format.specs.Cut.{cut, after}
+use Rattle.format.proofs.Inside.{direct_of, counts_each}
 use Rattle.format.proofs.Lists.{length-listing}
 use Rattle.format.proofs.Loop.{spread}
-use Rattle.body.proofs.Loops.{listed_last}
 use Rattle.body.proofs.list.push_list.Goals as goal
 
-pub push_records-end-requires-clause-room : goal.push_records-end-requires-clause-room
+pub push_records-list-requires-clause-room : goal.push_records-list-requires-clause-room
 unfolding spread
-push_records-end-requires-clause-room g c = omega (arith, length-listing c.args.id (g.R.Record.entries c.args.body.bytes.now c.args.body.offset) c.args.body.offset c.args.first (cut g.R.Record.rule c.args.body.bytes.now c.args.count c.args.first))
+push_records-list-requires-clause-room g c = omega (arith, length-listing c.args.id (g.R.Record.entries c.args.body.bytes.now c.args.body.offset) c.args.body.offset c.args.first (cut g.R.Record.rule c.args.body.bytes.now c.args.count c.args.first))
 
-pub begin_container-requires : goal.begin_container-requires
+pub finish_container-requires-clause-room : goal.finish_container-requires-clause-room
 unfolding spread
-begin_container-requires g c = omega (arith, length-listing c.args.id (g.R.Record.entries c.args.body.bytes.now c.args.body.offset) c.args.body.offset c.args.first (cut g.R.Record.rule c.args.body.bytes.now c.args.count c.args.first))
-
-pub end_container-requires : goal.end_container-requires
-unfolding spread
-end_container-requires g c = omega (arith, length-listing c.args.id (g.R.Record.entries c.args.body.bytes.now c.args.body.offset) c.args.body.offset c.args.first (cut g.R.Record.rule c.args.body.bytes.now c.args.count c.args.first))
+finish_container-requires-clause-room g c =
+    let w = c.push_records-list.ensures.wrote in
+    omega (arith, length-listing c.args.id (g.R.Record.entries c.args.body.bytes.now c.args.body.offset) c.args.body.offset c.args.first (cut g.R.Record.rule c.args.body.bytes.now c.args.count c.args.first), w.place, w.same_length)
 
 pub returns-clause-wrote : goal.returns-clause-wrote
-unfolding spread
+unfolding listing
 returns-clause-wrote g c =
     let b = c.args.body in
-    let e = c.push_records-end.ensures in
-    let h = rw c.range.ensures.0 at c.begin_container.ensures in
-    listed_last c.args.id (g.R.Record.entries b.bytes.now b.offset) b.offset c.args.first (cut g.R.Record.rule c.args.body.bytes.now c.args.count c.args.first) (omega (arith, c.range.ensures.1, e.end_value, e.end_in_bounds.0)) e.wrote h c.end_container.ensures
+    let ss = cut g.R.Record.rule b.bytes.now c.args.count c.args.first in
+    let f = g.R.Record.entries b.bytes.now b.offset in
+    let e = c.push_records-list.ensures in
+    let q : c.range-range.result.end ≡ b.offset + after c.args.first ss = omega (arith, c.range-range.ensures.1, e.end_value, e.end_in_bounds.0) in
+    let w = c.finish_container.ensures c.args.strip.now (flat_map f ss) refl (e.count_value ∙ sym (direct_of (counts_each f (g.met.R.Record.one b.bytes.now b.offset) ss))) e.wrote in
+    rw (c.range-range.ensures.0, q) at w

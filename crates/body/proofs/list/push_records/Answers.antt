@@ -1,11 +1,14 @@
 use native.Mathlib.Omega.{arith}
-use mathlib.Core.Path.{◌≡◌, refl}
+use mathlib.Core.Path.{◌≡◌, refl, ◌∙◌}
+use mathlib.Core.List.{[]}
 use Rattle.format.specs.Cut.{cut}
 use Rattle.format.proofs.Loop.{spread}
 use Rattle.format.proofs.Unique.{cut_none}
 use Rattle.body.proofs.Loops.{begin, turn, room, finish}
 use Rattle.util.proofs.Laws.{some_of, none_of}
+use Rattle.body.proofs.list.push_records.Given.{Over}
 use Rattle.body.proofs.list.push_records.Goals as goal
+use Rattle.body.proofs.list.push_records.Goals.{Joined-left-eq0, then-left-eq0, else-left-eq0+in_default}
 
 pub loop-left-init : goal.loop-left-init
 loop-left-init g c = (begin _ _ _ _ _ _, omega arith, c.requires.first_in_bounds)
@@ -21,23 +24,23 @@ loop-left-preserved g c =
     let w = g.met.R.Record.within _ _ _ e in
     (turn _ _ _ _ _ _ _ c.loop-left.invariant.0 (omega arith) e c.push.ensures, omega arith, w)
 
-pub returns-then-left-eq0-clause-wrote : goal.returns-then-left-eq0-clause-wrote
-unfolding spread cut
-returns-then-left-eq0-clause-wrote g c =
-    let z : c.loop-left.left ≡ 0 = c.if-left-eq0.true in
-    (finish _ _ _ _ _ _ c.loop-left.invariant.0 (rw z refl)).0
-
-pub returns-then-left-eq0-clause-end_value : goal.returns-then-left-eq0-clause-end_value
+-- Where the loop ends, nothing more is due or stands, and the place is the list's end.
+nothing_more : (g : Over) (c : Joined-left-eq0 g) → cut g.R.Record.rule c.args.body.bytes.now c.loop-left.left c.loop-left.pos ≡ []
 unfolding cut
-returns-then-left-eq0-clause-end_value g c =
-    let z : c.loop-left.left ≡ 0 = c.if-left-eq0.true in
-    (finish _ _ _ _ _ _ c.loop-left.invariant.0 (rw z refl)).1
+nothing_more g c = elim c.if-left-eq0.branch [
+  | then-left-eq0 w ↦ let z : c.loop-left.left ≡ 0 = w.if-left-eq0.true in rw z refl
+  | else-left-eq0+in_default w ↦ cut_none g.R.Record.rule c.args.body.bytes.now c.loop-left.left c.loop-left.pos (none_of _ _ w.fits.ensures w.in_default.is)
+]
 
-pub returns-in_default-clause-wrote : goal.returns-in_default-clause-wrote
+at_place : (g : Over) (c : Joined-left-eq0 g) → c.if-left-eq0.end ≡ c.loop-left.pos
+at_place g c = elim c.if-left-eq0.branch [ then-left-eq0 w ↦ w.end-is | else-left-eq0+in_default w ↦ w.end-is ]
+
+pub returns-clause-wrote : goal.returns-clause-wrote
 unfolding spread
-returns-in_default-clause-wrote g c =
-    (finish _ _ _ _ _ _ c.loop-left.invariant.0 (cut_none _ _ _ _ (none_of _ _ c.fits.ensures c.in_default.is))).0
+returns-clause-wrote g c = (finish _ _ _ _ _ _ c.loop-left.invariant.0 (nothing_more g c)).0
 
-pub returns-in_default-clause-end_value : goal.returns-in_default-clause-end_value
-returns-in_default-clause-end_value g c =
-    (finish _ _ _ _ _ _ c.loop-left.invariant.0 (cut_none _ _ _ _ (none_of _ _ c.fits.ensures c.in_default.is))).1
+pub returns-clause-count_value : goal.returns-clause-count_value
+returns-clause-count_value g c = let f = finish _ _ _ _ _ _ c.loop-left.invariant.0 (nothing_more g c) in omega (arith, f.2)
+
+pub returns-clause-end_value : goal.returns-clause-end_value
+returns-clause-end_value g c = at_place g c ∙ (finish _ _ _ _ _ _ c.loop-left.invariant.0 (nothing_more g c)).1
