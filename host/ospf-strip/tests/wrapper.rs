@@ -10,26 +10,33 @@ use oracle::Walk;
 use ospf_strip::{Buffer, Kind, OutsidePacket, Refusal, Row, Strip, Version, exports};
 use walk::{run, strip_of};
 
+/// Each strip that is accepted of generated inputs of these classes.
+fn each_strip(classes: &[Class], seed: u64, mut each: impl FnMut(&Input, Strip<'_>)) {
+    let mut buffer = Buffer::new();
+    for &class in classes {
+        inputs::of_class(class, seed, 20, &mut |input| {
+            if let Ok(strip) = run(&mut buffer, &input) {
+                each(&input, strip);
+            }
+        });
+    }
+}
+
 /// Entries read back and written again by another program are the strip.
 #[test]
 fn entries_are_the_strip() {
-    let mut buffer = Buffer::new();
     let mut strips = 0;
-    for class in [
+    let classes = [
         Class::Structured,
         Class::Damaged,
         Class::Block,
         Class::Unreachable,
-    ] {
-        inputs::of_class(class, 2, 20, &mut |input| {
-            let Ok(strip) = run(&mut buffer, &input) else {
-                return;
-            };
-            let lines: Vec<String> = strip.into_iter().map(|e| line(&e)).collect();
-            assert_eq!(listing::strip(&lines.join("\n")), strip.bytes());
-            strips += 1;
-        });
-    }
+    ];
+    each_strip(&classes, 2, |_, strip| {
+        let lines: Vec<String> = strip.into_iter().map(|e| line(&e)).collect();
+        assert_eq!(listing::strip(&lines.join("\n")), strip.bytes());
+        strips += 1;
+    });
     assert!(strips > 1_000, "{strips}");
 }
 
@@ -37,39 +44,34 @@ fn entries_are_the_strip() {
 /// so: counted again from the strip.
 #[test]
 fn counts_of_containers() {
-    let mut buffer = Buffer::new();
     let (mut containers, mut empty, mut most) = (0, 0, 0);
-    for class in [
+    let classes = [
         Class::Structured,
         Class::Tos,
         Class::Prefix,
         Class::Large,
         Class::Block,
-    ] {
-        inputs::of_class(class, 2, 20, &mut |input| {
-            let Ok(strip) = run(&mut buffer, &input) else {
-                return;
-            };
-            // What the containers that are open say, and what stands in each so far.
-            let mut open: Vec<(u32, u32)> = Vec::new();
-            for entry in strip {
-                assert_eq!(entry.count().is_some(), entry.kind() == Kind::Open);
-                if entry.kind() == Kind::Close {
-                    let (says, inside) = open.pop().expect("a close has an open");
-                    assert_eq!(says, inside, "{input:?}");
-                    containers += 1;
-                    empty += usize::from(says == 0);
-                    most = most.max(says);
-                    continue;
-                }
-                if let Some((_, inside)) = open.last_mut() {
-                    *inside += 1;
-                }
-                open.extend(entry.count().map(|says| (says, 0)));
+    ];
+    each_strip(&classes, 2, |input, strip| {
+        // What the containers that are open say, and what stands in each so far.
+        let mut open: Vec<(u32, u32)> = Vec::new();
+        for entry in strip {
+            assert_eq!(entry.count().is_some(), entry.kind() == Kind::Open);
+            if entry.kind() == Kind::Close {
+                let (says, inside) = open.pop().expect("a close has an open");
+                assert_eq!(says, inside, "{input:?}");
+                containers += 1;
+                empty += usize::from(says == 0);
+                most = most.max(says);
+                continue;
             }
-            assert!(open.is_empty(), "{input:?}");
-        });
-    }
+            if let Some((_, inside)) = open.last_mut() {
+                *inside += 1;
+            }
+            open.extend(entry.count().map(|says| (says, 0)));
+        }
+        assert!(open.is_empty(), "{input:?}");
+    });
     assert!(containers > 50_000 && empty > 100, "{containers} {empty}");
     // The attached routers that a Network-LSA of 65,535 bytes has room for.
     assert_eq!(most, 16_377);
@@ -221,29 +223,24 @@ fn packed_answers_of_blocks() {
 /// bytes that are one too few.
 #[test]
 fn lent_bytes() {
-    let mut buffer = Buffer::new();
     let (mut strips, mut absent) = (0, 0);
-    for class in [Class::Structured, Class::Block] {
-        inputs::of_class(class, 6, 20, &mut |input| {
-            let Ok(expected) = run(&mut buffer, &input) else {
-                return;
-            };
-            let needed = expected.bytes().len();
-            let mut lent = vec![0xA5; needed + 3];
-            // What is absent needs no room.
-            if let Some(short) = needed.checked_sub(1) {
-                let refusal = into(&input, &mut lent[..short]).unwrap_err();
-                assert_eq!(refusal, Refusal::Room { needed });
-                assert!(lent.iter().all(|&byte| byte == 0xA5));
-                strips += 1;
-            } else {
-                absent += 1;
-            }
-            assert_eq!(into(&input, &mut lent[..needed]), Ok(expected));
-            assert_eq!(into(&input, &mut lent), Ok(expected));
-            assert_eq!(lent[needed..], [0xA5; 3]);
-        });
-    }
+    let classes = [Class::Structured, Class::Block];
+    each_strip(&classes, 6, |input, expected| {
+        let needed = expected.bytes().len();
+        let mut lent = vec![0xA5; needed + 3];
+        // What is absent needs no room.
+        if let Some(short) = needed.checked_sub(1) {
+            let refusal = into(input, &mut lent[..short]).unwrap_err();
+            assert_eq!(refusal, Refusal::Room { needed });
+            assert!(lent.iter().all(|&byte| byte == 0xA5));
+            strips += 1;
+        } else {
+            absent += 1;
+        }
+        assert_eq!(into(input, &mut lent[..needed]), Ok(expected));
+        assert_eq!(into(input, &mut lent), Ok(expected));
+        assert_eq!(lent[needed..], [0xA5; 3]);
+    });
     assert!(strips > 1_000 && absent > 50, "{strips} {absent}");
 }
 
@@ -263,25 +260,20 @@ fn into<'s>(input: &Input, strip: &'s mut [u8]) -> Result<Strip<'s>, Refusal> {
 /// Records and tail are those of the reference.
 #[test]
 fn records_and_tail() {
-    let mut buffer = Buffer::new();
     let (mut many, mut tails) = (0, 0);
-    for class in [
+    let classes = [
         Class::Structured,
         Class::Truncated,
         Class::Damaged,
         Class::Count,
-    ] {
-        inputs::of_class(class, 7, 20, &mut |input| {
-            let Ok(strip) = run(&mut buffer, &input) else {
-                return;
-            };
-            let answer = input.call().run().answer(usize::MAX);
-            let found = (strip.records() as u32, strip.tail() as u32);
-            assert_eq!(found, (answer.records, answer.tail), "{input:?}");
-            many += usize::from(answer.records > 1);
-            tails += usize::from(answer.tail > 0);
-        });
-    }
+    ];
+    each_strip(&classes, 7, |input, strip| {
+        let answer = input.call().run().answer(usize::MAX);
+        let found = (strip.records() as u32, strip.tail() as u32);
+        assert_eq!(found, (answer.records, answer.tail), "{input:?}");
+        many += usize::from(answer.records > 1);
+        tails += usize::from(answer.tail > 0);
+    });
     assert!(many > 1_000 && tails > 1_000, "{many} {tails}");
 }
 
@@ -311,37 +303,32 @@ fn part_of_the_packet() {
 #[test]
 fn parts_of_accepted_walks() {
     let front = 9;
-    let mut buffer = Buffer::new();
     let (mut parts, mut held) = (0, 0);
-    for class in [
+    let classes = [
         Class::Structured,
         Class::Damaged,
         Class::Offset,
         Class::Block,
-    ] {
-        inputs::of_class(class, 4, 20, &mut |input| {
-            let (data, offset) = (&input.data, input.offset);
-            let Ok(strip) = run(&mut buffer, &input) else {
-                return;
-            };
-            let packet = [&vec![0xA5; front], data.as_slice(), &[0xA5; 5]].concat();
-            for entry in strip.entries().filter(|e| e.kind() == Kind::Bytes) {
-                let range = entry.range().unwrap();
-                let place = |at: u32| (u64::from(at) - offset) as usize;
-                let bytes = &data[place(range.start)..place(range.end)];
-                let part = entry.part(data, offset).unwrap();
-                assert_eq!(part.as_ptr_range(), bytes.as_ptr_range());
-                if let Some(base) = offset.checked_sub(front as u64) {
-                    let end = front + place(range.end);
-                    assert_eq!(entry.part(&packet, base), Ok(bytes));
-                    assert_eq!(entry.part(&packet[..end], base), Ok(bytes));
-                    let cut = entry.part(&packet[..end - 1], base);
-                    assert_eq!(cut, Err(OutsidePacket));
-                    held += 1;
-                }
-                parts += 1;
+    ];
+    each_strip(&classes, 4, |input, strip| {
+        let (data, offset) = (&input.data, input.offset);
+        let packet = [&vec![0xA5; front], data.as_slice(), &[0xA5; 5]].concat();
+        for entry in strip.entries().filter(|e| e.kind() == Kind::Bytes) {
+            let range = entry.range().unwrap();
+            let place = |at: u32| (u64::from(at) - offset) as usize;
+            let bytes = &data[place(range.start)..place(range.end)];
+            let part = entry.part(data, offset).unwrap();
+            assert_eq!(part.as_ptr_range(), bytes.as_ptr_range());
+            if let Some(base) = offset.checked_sub(front as u64) {
+                let end = front + place(range.end);
+                assert_eq!(entry.part(&packet, base), Ok(bytes));
+                assert_eq!(entry.part(&packet[..end], base), Ok(bytes));
+                let cut = entry.part(&packet[..end - 1], base);
+                assert_eq!(cut, Err(OutsidePacket));
+                held += 1;
             }
-        });
-    }
+            parts += 1;
+        }
+    });
     assert!(parts > 1_000 && held > 1_000, "{parts} {held}");
 }
