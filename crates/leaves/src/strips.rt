@@ -44,6 +44,12 @@ fn kinds(strip: &mut Writer)
     push_field(strip, 2, 1..3, FieldValue::U16(65535));
     push_field(strip, 3, 3..7, FieldValue::U32(4294967295));
     push_field(strip, 9, 7..10, FieldValue::Unreachable);
+    more_kinds(strip);
+}
+
+fn more_kinds(strip: &mut Writer)
+    requires { HasRoom strip.old 69 }
+{
     push_field(strip, 4, 7..11, FieldValue::Ipv4(3232235777));
     push_field(strip, 5, 11..27, FieldValue::Ipv6(2306139568115548160, 1));
     push_field(strip, 6, 27..65562, FieldValue::Bytes);
@@ -60,11 +66,25 @@ fn leaves(strip: &mut Writer, body: Part)
     push_bit_at(strip, 11, body, 16, 128);
     push_low_bits_at(strip, 12, body, 16, 128);
     push_at::<U16>(strip, 13, body, 15);
+    numbers(strip, body);
+}
+
+fn numbers(strip: &mut Writer, body: Part)
+    requires in_bounds { HasRoom strip.old 150 }
+    requires body_len { length body.bytes.now ≡ 17 }
+{
     push_at::<U24>(strip, 14, body, 14);
     push_metric24_at(strip, 15, body, 1);
     push_at::<Wide16>(strip, 16, body, 2);
     push_at::<U32>(strip, 17, body, 13);
     push_at::<U64>(strip, 22, body, 9);
+    addresses(strip, body);
+}
+
+fn addresses(strip: &mut Writer, body: Part)
+    requires in_bounds { HasRoom strip.old 76 }
+    requires body_len { length body.bytes.now ≡ 17 }
+{
     push_at::<Ipv4>(strip, 18, body, 4);
     push_ipv6_at(strip, 19, body, 1, 16);
     push_ipv6_at(strip, 20, body, 8, 4);

@@ -1,13 +1,16 @@
 -- How numbers and addresses are written, digit by digit, and how long they are.
 use Prim.Native.Nat.{ℕ, zero, suc, ◌+◌, ◌-◌, ◌/◌, ◌%◌, ◌≤◌, ◌<◌}
+use native.Mathlib.Nat.{add-zero}
 use native.Mathlib.Omega.{arith}
 use mathlib.Core.Path.{◌≡◌, refl}
 use mathlib.Core.Logic.{◌⊎◌}
 use mathlib.Core.Bool.{Bool, true, false, cond}
-use mathlib.Core.List.{[], ◌∷◌, ◌++◌}
-use lib.ListN.{length, length-append}
+use mathlib.Core.List.{List, [], ◌∷◌, ◌++◌}
+use lib.ListN.{length, length-append, set}
 use lib.Dec.{ltb}
 use borrow.Author.Tests.{lt-ltb, le-ltb}
+use Rattle.format.specs.Wrote.{Wrote}
+use Rattle.format.proofs.Wrote.{then}
 use Rattle.format.specs.Print.{digits, hex_digit, hex, spaced, dot, place, dotted}
 use Rattle.std.proofs.lemmas.Grind.{common_steps}
 
@@ -39,6 +42,13 @@ pub length-hex : (k n : ℕ) → length (hex k n) ≡ k
 unfolding hex
 length-hex zero n = refl
 length-hex (suc k) n = rw (length-append, length-hex k (n / 16)) (omega arith)
+
+-- a digit after those that are written, and none yet
+pub one_more : {l l' : List ℕ} {a a' : ℕ} {xs : List ℕ} (x : ℕ) → Wrote l a xs l' a' → Wrote l a (xs ++ (x ∷ [])) (set l' a' x) (a' + 1)
+one_more x w = then w (record { place = omega arith; contents = refl })
+
+pub none_yet : {l l' : List ℕ} {a a' : ℕ} → l' ≡ l → a' ≡ a → Wrote l a [] l' a'
+none_yet e f = record { place = rw add-zero f; contents = e }
 
 -- a number after a space, and one before a dot
 pub length-spaced : (n : ℕ) → length (spaced n) ≤ 21

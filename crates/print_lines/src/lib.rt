@@ -6,14 +6,14 @@ ghost use Rattle.format.specs.Wrote.{Wrote};
 ghost use Rattle.format.specs.Print.{line, line_room, first_line, text, field, spaced, dotted, hex, ip4_word, ip6_word};
 ghost use Rattle.strip_put.specs.Writer.{HasRoom, Writes};
 ghost use Rattle.strip_step.specs.Answers.{entry_meaning};
-ghost use Rattle.walk_answer.specs.Answers.{answer_meaning};
+ghost use Rattle.walk_answer.specs.Answers.{answer_meaning, numbers_meaning};
 ghost use Rattle.print_lines.specs.Text.{fitting};
 
 use print_digits::{put_dotted, put_hex, put_place, put_spaced};
 use refusal::Refusal;
 use strip_put::Writer;
 use strip_step::{Entry, Field};
-use walk_answer::Answer;
+use walk_answer::{Answer, Numbers};
 
 // No line is longer.
 pub const LINE: usize = 160;
@@ -37,6 +37,14 @@ pub fn answer_line(out: &mut [u8], answer: Result<Answer, Refusal>) -> usize
     ensures wrote { Wrote out.old 0 (fitting (length out.old) (first_line (answer_meaning answer))) out.new result }
     ensures upper_bound { (result ≤ length out.new) × (result ≡ length (take result out.new)) }
 {
+    numbers_line(out, Numbers::of(answer))
+}
+
+// The same of any four numbers.
+pub fn numbers_line(out: &mut [u8], answer: Numbers) -> usize
+    ensures wrote { Wrote out.old 0 (fitting (length out.old) (first_line (numbers_meaning answer))) out.new result }
+    ensures upper_bound { (result ≤ length out.new) × (result ≡ length (take result out.new)) }
+{
     if out.len() < LINE {
         return 0;
     }
@@ -45,26 +53,26 @@ pub fn answer_line(out: &mut [u8], answer: Result<Answer, Refusal>) -> usize
     writer.at
 }
 
-fn put_answer(out: &mut Writer<'_>, answer: Result<Answer, Refusal>)
+#[inline(always)]
+fn put_answer(out: &mut Writer<'_>, answer: Numbers)
     requires { HasRoom out.old line_room }
-    ensures { Writes out.old (first_line (answer_meaning answer)) out.new }
+    ensures { Writes out.old (first_line (numbers_meaning answer)) out.new }
 {
-    match answer {
-        Ok(answer) => {
-            out.put(b"ok");
-            put_spaced(out, answer.records as u64);
-            put_spaced(out, answer.tail as u64);
-            put_spaced(out, answer.length as u64);
-        }
-        Err(refusal) => {
-            out.put(b"refused");
-            put_spaced(out, refusal.number() as u64);
-            put_spaced(out, refusal.needed() as u64);
-        }
+    if answer.number == 0 {
+        out.put(b"ok");
+        put_spaced(out, answer.records as u64);
+        put_spaced(out, answer.tail as u64);
+        put_spaced(out, answer.length as u64);
+    } else {
+        let needed = answer.length;
+        out.put(b"refused");
+        put_spaced(out, answer.number as u64);
+        put_spaced(out, needed as u64);
     }
     out.put_u8(b'\n');
 }
 
+#[inline(always)]
 fn put_line(out: &mut Writer<'_>, entry: Entry)
     requires { HasRoom out.old line_room }
     ensures { Writes out.old (line (entry_meaning entry)) out.new }
@@ -73,6 +81,7 @@ fn put_line(out: &mut Writer<'_>, entry: Entry)
     out.put_u8(b'\n');
 }
 
+#[inline(always)]
 fn put_text(out: &mut Writer<'_>, entry: Entry)
     requires { HasRoom out.old line_room }
     ensures { Writes out.old (text (entry_meaning entry)) out.new }
@@ -92,6 +101,7 @@ fn put_text(out: &mut Writer<'_>, entry: Entry)
 }
 
 // Kind word, id, start and end.
+#[inline(always)]
 fn put_field(out: &mut Writer<'_>, word: &[u8], f: Field)
     requires line_room_in_bounds { HasRoom out.old line_room }
     requires word_len_bound { length word.now ≤ 5 }
@@ -102,6 +112,7 @@ fn put_field(out: &mut Writer<'_>, word: &[u8], f: Field)
 }
 
 // A field whose value is a number.
+#[inline(always)]
 fn put_number(out: &mut Writer<'_>, word: &[u8], f: Field, value: u64)
     requires line_room_in_bounds { HasRoom out.old line_room }
     requires word_len_bound { length word.now ≤ 5 }
@@ -111,6 +122,7 @@ fn put_number(out: &mut Writer<'_>, word: &[u8], f: Field, value: u64)
     put_spaced(out, value);
 }
 
+#[inline(always)]
 fn put_ipv4(out: &mut Writer<'_>, f: Field, address: u32)
     requires { HasRoom out.old line_room }
     ensures { Writes out.old (field ip4_word f.id f.start f.end ++ (32 ∷ dotted address)) out.new }
@@ -120,6 +132,7 @@ fn put_ipv4(out: &mut Writer<'_>, f: Field, address: u32)
     put_dotted(out, address);
 }
 
+#[inline(always)]
 fn put_ipv6(out: &mut Writer<'_>, f: Field, high: u64, low: u64)
     requires { HasRoom out.old line_room }
     ensures { Writes out.old (field ip6_word f.id f.start f.end ++ (32 ∷ (hex 16 high ++ hex 16 low))) out.new }

@@ -4,12 +4,12 @@
 ghost use Rattle.std.specs.Prelude.{◌≡◌, ◌≤◌, length, take};
 ghost use Rattle.format.specs.Wrote.{Wrote};
 ghost use Rattle.format.specs.Pieces.{lines_at, shown_part};
-ghost use Rattle.walk_answer.specs.Answers.{answer_meaning};
+ghost use Rattle.walk_answer.specs.Answers.{answer_meaning, numbers_meaning};
 
 use print_lines::{LINE, entry_line};
 use refusal::Refusal;
 use strip_reader::Reader;
-use walk_answer::Answer;
+use walk_answer::{Answer, Numbers};
 
 // How many bytes the lines have, and the place of the strip where the next ones begin.
 #[derive(Clone, Copy, PartialEq, Eq, Debug)]
@@ -39,12 +39,19 @@ pub fn put_lines(out: &mut [u8], strip: &[u8], place: usize) -> Lines
 }
 
 // The part of the strip buffer whose entries are printed: nothing where the answer is a refusal.
-#[tactic(auto, unfolding(format::specs::Pieces::shown_part))]
 pub fn shown_part(strip: &[u8], answer: Result<Answer, Refusal>) -> &[u8]
     ensures { result.now ≡ shown_part (answer_meaning answer) strip.now }
 {
-    match answer {
-        Ok(answer) => &strip[..answer.length.min(strip.len())],
-        Err(_) => &[],
+    shown_by_numbers(strip, Numbers::of(answer))
+}
+
+// The same of any four numbers.
+#[tactic(auto, unfolding(format::specs::Pieces::shown_part))]
+pub fn shown_by_numbers(strip: &[u8], answer: Numbers) -> &[u8]
+    ensures { result.now ≡ shown_part (numbers_meaning answer) strip.now }
+{
+    if answer.number != 0 {
+        return &[];
     }
+    &strip[..answer.length.min(strip.len())]
 }

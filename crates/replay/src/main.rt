@@ -4,7 +4,7 @@
 
 mod buffers;
 
-use buffers::{FILE, ROOM, buffer};
+use buffers::{FILE, ROOM, file_buffer, strip_buffer};
 use read_input::read_full;
 use replay_tally::{count_calls, count_different, first_different, whole_calls};
 use replay_text::{line, number, word};
@@ -41,7 +41,7 @@ fn replay_argument(files: &impl Files, to: &mut impl Write, path: &[u8]) -> io::
 }
 
 fn replay_file(from: &mut impl Read, to: &mut impl Write) -> io::Result<()> {
-    let mut file = buffer::<FILE>();
+    let mut file = file_buffer();
     let n = read_full(from, &mut file)?;
     if n == FILE {
         return word(to, b"too long\n");
@@ -81,7 +81,7 @@ fn print_numbers(to: &mut impl Write, file: &[u8], walk: u8) -> io::Result<()> {
 
 // How many calls differ, and the index of the first of them.
 fn print_differences(to: &mut impl Write, file: &[u8]) -> io::Result<()> {
-    let mut strip = buffer::<ROOM>();
+    let mut strip = strip_buffer();
     let different = count_different(file, &mut strip);
     word(to, b"different")?;
     number(to, different as u64)?;

@@ -4,32 +4,37 @@
 
 ghost use Rattle.std.specs.Prelude.{◌≡◌, ◌+◌, ◌≤◌, ◌↔◌, length, IsTrue};
 ghost use Rattle.format.specs.Bytes.{same_bytes};
-ghost use Rattle.walk_answer.specs.Answers.{answer_meaning};
+ghost use Rattle.walk_answer.specs.Answers.{answer_meaning, numbers_meaning};
 ghost use Rattle.replay_call.specs.Stored.{kept_at};
 ghost use Rattle.replay_expected.specs.Expected.{lent, same_answer, stored_answer, stored_buffer};
 
 use refusal::Refusal;
 use replay_call::{ANSWER, kept_at};
 use util::read_be_u32;
-use walk_answer::Answer;
+use walk_answer::{Answer, Numbers};
 
 // What the buffer holds before a call.
 pub const FILL: u8 = 165;
 
 // Whether the answer is the one that is stored at q.
-#[tactic(auto, unfolding(crate::specs::Expected::same_answer))]
 pub fn is_answer(a: Result<Answer, Refusal>, file: &[u8], q: usize) -> bool
     requires { q + 13 ≤ length file.now }
     ensures { result ≡ same_answer (answer_meaning a) (stored_answer file.now q) }
+{
+    are_numbers(Numbers::of(a), file, q)
+}
+
+// The same of any four numbers.
+#[tactic(auto, unfolding(crate::specs::Expected::same_answer))]
+pub fn are_numbers(a: Numbers, file: &[u8], q: usize) -> bool
+    requires { q + 13 ≤ length file.now }
+    ensures { result ≡ same_answer (numbers_meaning a) (stored_answer file.now q) }
 {
     let number = file[q];
     let length = read_be_u32(file, q + 1) as usize;
     let records = read_be_u32(file, q + 5) as usize;
     let tail = read_be_u32(file, q + 9) as usize;
-    match a {
-        Ok(a) => number == 0 && length == a.length && records == a.records && tail == a.tail,
-        Err(r) => number == r.number() && length == r.needed() && records == 0 && tail == 0,
-    }
+    number == a.number && length == a.length && records == a.records && tail == a.tail
 }
 
 // Whether the buffer is the strip that is stored after the answer at q, and then as it was filled.

@@ -2,7 +2,7 @@
 // there too; so a field's range and its value cannot part.
 #![tactic(auto, unfolding(format::specs::Strip::code))]
 
-ghost use Rattle.std.specs.Prelude.{◌+◌, ◌≤◌, ◌<◌, ◌∷◌, length};
+ghost use Rattle.std.specs.Prelude.{◌≡◌, ◌+◌, ◌≤◌, ◌<◌, ◌∷◌, length};
 ghost use Rattle.format.specs.Strip.{Entry, head, code, bit_at, low_bits_at, metric24_at, bytes_at};
 ghost use Rattle.format.specs.Prefix.{ip6_at};
 ghost use Rattle.strip_ids.specs.Kind.{number_of};
@@ -33,16 +33,17 @@ pub enum FieldValue {
     Unreachable,
 }
 
-// An entry up to its value.
+// An entry up to its value. Start and end are one number of 64 bits, which takes one store where two numbers take two.
 #[inline(always)]
-fn push_head(strip: &mut Writer, kind: Kind, id: u8, range: Range<u32>)
-    requires { HasRoom strip.old 10 }
+#[tactic(auto, using(strip_put::proofs::SwapLaws::stored_pair))]
+fn push_head(strip: &mut Writer, kind: Kind, id: u8, range: Range<u64>)
+    requires room { HasRoom strip.old 10 }
+    requires small { (range.start < 4294967296) × (range.end < 4294967296) }
     ensures { Writes strip.old (number_of kind ∷ head id range.start range.end) strip.new }
 {
     strip.put_u8(kind as u8);
     strip.put_u8(id);
-    strip.put_u32(range.start);
-    strip.put_u32(range.end);
+    strip.put_u64(range.start * 4294967296 + range.end);
 }
 
 // The opening of a container, which says how many entries are directly inside.
@@ -52,7 +53,7 @@ pub fn begin_container(strip: &mut Writer, id: u8, range: Range<u32>, entries: u
     ensures { Writes strip.old (code (Entry.opens id range.start range.end entries)) strip.new }
 {
     let mut out = Writer::new(&mut *strip.buffer, strip.at);
-    push_head(&mut out, Kind::Open, id, range);
+    push_head(&mut out, Kind::Open, id, wide(range));
     out.put_u32(entries);
     strip.at = out.at;
 }
@@ -79,11 +80,26 @@ pub fn finish_container(strip: &mut Writer, opening: usize, id: u8, range: Range
     end_container(strip);
 }
 
-// Inlined, so that the compiler sees which value it is; and by a writer of its own, since of one that was handed in the compiler
-// reads buffer and place again after every byte.
 #[inline(always)]
 pub fn push_field(strip: &mut Writer, id: u8, range: Range<u32>, value: FieldValue)
     requires { HasRoom strip.old (length (code (entry_of value id range.start range.end))) }
+    ensures { Writes strip.old (code (entry_of value id range.start range.end)) strip.new }
+{
+    push_wide(strip, id, wide(range), value);
+}
+
+fn wide(range: Range<u32>) -> Range<u64>
+    ensures { (result.start ≡ range.start) × (result.end ≡ range.end) }
+{
+    u64::from(range.start)..u64::from(range.end)
+}
+
+// Inlined, so that the compiler sees which value it is; and by a writer of its own, since of one that was handed in the compiler
+// reads buffer and place again after every byte.
+#[inline(always)]
+fn push_wide(strip: &mut Writer, id: u8, range: Range<u64>, value: FieldValue)
+    requires room { HasRoom strip.old (length (code (entry_of value id range.start range.end))) }
+    requires small { (range.start < 4294967296) × (range.end < 4294967296) }
     ensures { Writes strip.old (code (entry_of value id range.start range.end)) strip.new }
 {
     let mut out = Writer::new(&mut *strip.buffer, strip.at);
@@ -92,8 +108,9 @@ pub fn push_field(strip: &mut Writer, id: u8, range: Range<u32>, value: FieldVal
 }
 
 #[inline(always)]
-fn push_value(strip: &mut Writer, id: u8, range: Range<u32>, value: FieldValue)
-    requires { HasRoom strip.old (length (code (entry_of value id range.start range.end))) }
+fn push_value(strip: &mut Writer, id: u8, range: Range<u64>, value: FieldValue)
+    requires room { HasRoom strip.old (length (code (entry_of value id range.start range.end))) }
+    requires small { (range.start < 4294967296) × (range.end < 4294967296) }
     ensures { Writes strip.old (code (entry_of value id range.start range.end)) strip.new }
 {
     match value {
@@ -134,7 +151,12 @@ pub fn push_at<F: Field>(strip: &mut Writer, id: u8, body: Part, p: usize)
     requires in_bounds { p + F.SIZE ≤ length body.bytes.now }
     ensures { Writes strip.old (code (F.entry id body.entry.bytes.now body.entry.offset p)) strip.new }
 {
-    push_field(strip, id, body.range(p, F::SIZE), F::read(body.bytes, p));
+    push_wide(
+        strip,
+        id,
+        body.wide_range(p, F::SIZE),
+        F::read(body.bytes, p),
+    );
 }
 
 // The bit of a byte that has this weight.
@@ -146,7 +168,7 @@ pub fn push_bit_at(strip: &mut Writer, id: u8, body: Part, p: usize, weight: u8)
     ensures { Writes strip.old (code (bit_at id body.entry.bytes.now body.entry.offset p weight)) strip.new }
 {
     let bit = body.bytes[p] / weight % 2;
-    push_field(strip, id, body.range(p, 1), FieldValue::U8(bit));
+    push_wide(strip, id, body.wide_range(p, 1), FieldValue::U8(bit));
 }
 
 // The bits of a byte below this weight.
@@ -158,7 +180,7 @@ pub fn push_low_bits_at(strip: &mut Writer, id: u8, body: Part, p: usize, weight
     ensures { Writes strip.old (code (low_bits_at id body.entry.bytes.now body.entry.offset p weight)) strip.new }
 {
     let bits = body.bytes[p] % weight;
-    push_field(strip, id, body.range(p, 1), FieldValue::U8(bits));
+    push_wide(strip, id, body.wide_range(p, 1), FieldValue::U8(bits));
 }
 
 // A metric of 24 bits: its cost, or that it is unreachable.
@@ -173,7 +195,7 @@ pub fn push_metric24_at(strip: &mut Writer, id: u8, body: Part, p: usize)
         Some(cost) => FieldValue::U32(cost),
         None => FieldValue::Unreachable,
     };
-    push_field(strip, id, body.range(p, 3), value);
+    push_wide(strip, id, body.wide_range(p, 3), value);
 }
 
 // The address of a prefix of n octets.
@@ -186,7 +208,7 @@ pub fn push_ipv6_at(strip: &mut Writer, id: u8, body: Part, p: usize, n: usize)
 {
     let address = prefix_to_ipv6(&body.bytes[p..p + n]);
     let value = FieldValue::Ipv6(read_be_u64(&address, 0), read_be_u64(&address, 8));
-    push_field(strip, id, body.range(p, n), value);
+    push_wide(strip, id, body.wide_range(p, n), value);
 }
 
 // The n bytes from p on, by their range alone.
@@ -196,5 +218,5 @@ pub fn push_bytes_at(strip: &mut Writer, id: u8, body: Part, p: usize, n: usize)
     requires in_bounds { p + n ≤ length body.bytes.now }
     ensures { Writes strip.old (code (bytes_at id body.entry.offset p n)) strip.new }
 {
-    push_field(strip, id, body.range(p, n), FieldValue::Bytes);
+    push_wide(strip, id, body.wide_range(p, n), FieldValue::Bytes);
 }

@@ -115,3 +115,7 @@ stored64 n h =
     le_bytes_8 (be64 n) (swap_bytes w64 n) refl
     (small_8 (omega arith) (omega arith) (omega arith) (omega arith) (omega arith) (omega arith) (omega arith) (omega arith))
     (omega arith)
+
+-- Two numbers of 32 bits are stored as one of 64, the first in its high half.
+pub stored_pair : (s e : ℕ) → e < 4294967296 → be64 (s * 4294967296 + e) ≡ be32 s ++ be32 e
+stored_pair s e h = rw (high32 s e h, low32 s e h) refl

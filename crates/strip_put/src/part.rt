@@ -34,6 +34,15 @@ impl<'a> Part<'a> {
         start..start + n as u32
     }
 
+    // The same in 64 bits, so that the compiler adds the parts of both places in one number (crate strip_push).
+    pub fn wide_range(self, p: usize, n: usize) -> Range<u64>
+        requires { p + n ≤ length self.bytes.now }
+        ensures { (result.start ≡ self.entry.offset + p) × (result.end ≡ self.entry.offset + p + n) }
+    {
+        let start = u64::from(self.offset) + p as u64;
+        start..start + n as u64
+    }
+
     // The n bytes from p on, as a part.
     pub fn part(self, p: usize, n: usize) -> Part<'a>
         requires { p + n ≤ length self.bytes.now }

@@ -11,8 +11,9 @@ use Rattle.format.specs.Walks as walks
 use Rattle.refusal.specs.declared.Refusal.{Refusal}
 use Rattle.refusal.proofs.Numbers.{number_positive, refusal_by, refusal_back, refusal_meant}
 use Rattle.refusal.specs.Numbers.{number_of}
-use Rattle.walk_answer.specs.Answers.{answer_meaning}
+use Rattle.walk_answer.specs.Answers.{answer_meaning, numbers_meaning}
 use Rattle.walk_answer.specs.declared.Answer.{Answer}
+use Rattle.walk_answer.specs.declared.Numbers.{Numbers}
 
 abbrev pub answered : walks.Answer → Result Answer Refusal
 answered a = cond (eqb a.number 0) (Ok (record { length = a.size; records = a.records; tail = a.tail })) (Err (refusal_by a.number a.size))
@@ -34,3 +35,13 @@ answer-meant a (inr (g, h, k, r, t)) =
 pub answer_back : (r : Result Answer Refusal) → answered (answer_meaning r) ≡ r
 answer_back (Ok a) = refl
 answer_back (Err r) = let h = number_positive r in rw (ne_eqb (number_of r) 0 (omega arith), refusal_back r) refl
+
+-- An answer as four numbers is any answer of the definitions: there and back.
+abbrev pub numbered : walks.Answer → Numbers
+numbered a = record { number = a.number; length = a.size; records = a.records; tail = a.tail }
+
+pub numbers-meant : (a : walks.Answer) → numbers_meaning (numbered a) ≡ a
+numbers-meant a = refl
+
+pub numbers_back : (n : Numbers) → numbered (numbers_meaning n) ≡ n
+numbers_back n = refl

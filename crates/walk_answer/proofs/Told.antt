@@ -1,13 +1,15 @@
 -- Every answer of a walk can be told: it is a strip, or a refusal of the requirements' table. So the code's answer says it.
 use Prim.Native.Nat.{ℕ, ◌≤◌, ◌<◌}
 use native.Mathlib.Omega.{arith}
-use mathlib.Core.Bool.{Bool, true, false}
+use mathlib.Core.Bool.{Bool, true, false, cond}
 use mathlib.Core.List.{List}
 use mathlib.Core.Logic.{◌⊎◌, inl, inr}
 use mathlib.Core.Option.{Option, none, some}
 use mathlib.Core.Path.{◌≡◌, refl}
-use lib.Dec.{eqb}
+use lib.Dec.{eqb, ltb}
+use lib.ListN.{length, get_or, drop}
 use borrow.Author.Tests.{eqb-true, eqb-false}
+use Rattle.format.specs.Print.{program_of, named_walk, count_of, max_input}
 use Rattle.format.specs.Strip.{Entry}
 use Rattle.format.specs.Walks.{Answer, Walk, answer_of, unless, refusal, headers_of, update_of, lsa_of, walk_of, named_of, walk_named}
 use Rattle.format.specs.Walks.Outcome.{refused, accepted}
@@ -77,3 +79,19 @@ module _ (v : ℕ) (d : List ℕ) where
 
   pub named_meant : (n count o room : ℕ) → answer_meaning (answered (answer_of (named_of v n d count o) room)) ≡ answer_of (named_of v n d count o) room
   named_meant n count o room = answer-meant _ (told_named n count o room)
+
+  pub walk_meant : (w : Walk) (count o room : ℕ) → answer_meaning (answered (answer_of (walk_of v w d count o) room)) ≡ answer_of (walk_of v w d count o) room
+  walk_meant w count o room = answer-meant _ (told_walk w count o room)
+
+-- The same of what the program makes of its input.
+pub told_program : (input : List ℕ) (room : ℕ) → Told (answer_of (program_of input) room)
+unfolding program_of
+told_program input room = go (ltb max_input (length input)) (ltb (length input) 2)
+  where
+    go : (s t : Bool) → Told (answer_of (cond s (refused 2) (cond t (refused 4) (named_walk input))) room)
+    go true t = told_refused 2 room (omega arith) (omega arith)
+    go false true = told_refused 4 room (omega arith) (omega arith)
+    go false false = told_named (get_or input 0 0) (drop 2 input) (get_or input 1 0) (count_of (drop 2 input)) 0 room
+
+pub program_meant : (input : List ℕ) (room : ℕ) → answer_meaning (answered (answer_of (program_of input) room)) ≡ answer_of (program_of input) room
+program_meant input room = answer-meant _ (told_program input room)

@@ -6,6 +6,7 @@ use Rattle.refusal.specs.Numbers.{number_of, needed_of}
 use Rattle.refusal.specs.declared.Refusal.{Refusal}
 use Rattle.refusal.specs.declared.Refusal.TheVariants.{NoWalk}
 use Rattle.walk_answer.specs.declared.Answer.{Answer}
+use Rattle.walk_answer.specs.declared.Numbers.{Numbers}
 use Rattle.walk_answer.specs.declared.Walk.{Walk}
 use Rattle.walk_answer.specs.declared.Walk.TheVariants as W
 
@@ -28,6 +29,10 @@ refusal_meaning (Err r) = number_of r
 abbrev pub answer_meaning : Result Answer Refusal → walks.Answer
 answer_meaning (Ok a) = walks.answer 0 a.length a.records a.tail
 answer_meaning (Err r) = walks.answer (number_of r) (needed_of r) 0 0
+
+-- The same as four numbers.
+abbrev pub numbers_meaning : Numbers → walks.Answer
+numbers_meaning a = walks.answer a.number a.length a.records a.tail
 
 -- What a walk promises of its answer, and of the lent buffer before and after.
 pub record Promised (x : walks.Outcome) (before : List ℕ) (r : Result Answer Refusal) (after : List ℕ) : Type 0 where

@@ -7,7 +7,7 @@ ghost use Rattle.format.specs.Trailer.{limit};
 ghost use Rattle.format.specs.Walks.{is_known, refusal, unparsed_id};
 ghost use Rattle.refusal.specs.Numbers.{needed_of};
 ghost use Rattle.refusal.specs.declared.Refusal.TheVariants.{NoRoom};
-ghost use Rattle.walk_answer.specs.Answers.{Names, refusal_meaning};
+ghost use Rattle.walk_answer.specs.Answers.{Names, answer_meaning, numbers_meaning, refusal_meaning};
 
 use refusal::Refusal;
 use strip_ids::{v2, v3};
@@ -43,6 +43,37 @@ pub struct Answer {
     pub length: usize,
     pub records: usize,
     pub tail: usize,
+}
+
+// An answer as four numbers: 0 or a refusal's number, the strip's length or the length needed, records and tail. Any four are such
+// an answer, also where no walk gives it.
+#[derive(Clone, Copy, PartialEq, Eq, Debug)]
+pub struct Numbers {
+    pub number: u8,
+    pub length: usize,
+    pub records: usize,
+    pub tail: usize,
+}
+
+impl Numbers {
+    pub fn of(answer: Result<Answer, Refusal>) -> Numbers
+        ensures { numbers_meaning result ≡ answer_meaning answer }
+    {
+        match answer {
+            Ok(accepted) => Numbers {
+                number: 0,
+                length: accepted.length,
+                records: accepted.records,
+                tail: accepted.tail,
+            },
+            Err(refusal) => Numbers {
+                number: refusal.number(),
+                length: refusal.needed(),
+                records: 0,
+                tail: 0,
+            },
+        }
+    }
 }
 
 // The largest data and offset, which keep every place within 32 bits.
